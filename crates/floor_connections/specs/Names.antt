@@ -6,12 +6,13 @@ use Rattle.floor_meetings.specs.Names as meetings
 use Rattle.floor_connections.specs.declared.departure.Departure.{Departure}
 use Rattle.floor_connections.specs.declared.departure.Departure.TheVariants as departure
 use Rattle.floor_connections.specs.declared.refusal.Refusal.{Refusal}
-use Rattle.floor_connections.specs.declared.refusal.Refusal.TheVariants.{NotAsked, Memory, AtDoor, AtMeeting}
+use Rattle.floor_connections.specs.declared.refusal.Refusal.TheVariants.{NotAsked, Memory, Removed, AtDoor, AtMeeting}
 
 -- the name of a refusal, in ASCII
 abbrev pub name_of : Refusal → List ℕ
 name_of NotAsked = codes "NotAsked"
 name_of Memory = codes "Memory"
+name_of Removed = codes "Removed"
 name_of (AtDoor refusal) = doors.name_of refusal
 name_of (AtMeeting refusal) = meetings.name_of refusal
 
@@ -24,4 +25,5 @@ name_of_departure (departure.Refused refusal) = hub.name_of refusal
 name_of_departure departure.Slow = codes "Slow"
 name_of_departure departure.Closed = codes "Closed"
 name_of_departure departure.BrokenOff = codes "BrokenOff"
+name_of_departure departure.Removed = codes "Removed"
 name_of_departure departure.Stopped = codes "Stopped"

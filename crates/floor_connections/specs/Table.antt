@@ -22,6 +22,7 @@ listener_of None = None
 listener_of (Some (socket.Listener l)) = Some l
 listener_of (Some (socket.AtDoor peer newcomer)) = None
 listener_of (Some socket.Turned) = None
+listener_of (Some (socket.Client place)) = None
 listener_of (Some (socket.Member peer end is_leaving)) = None
 
 -- it is somebody at a door
@@ -30,7 +31,17 @@ is_at_door None = false
 is_at_door (Some (socket.Listener l)) = false
 is_at_door (Some (socket.AtDoor peer newcomer)) = true
 is_at_door (Some socket.Turned) = false
+is_at_door (Some (socket.Client place)) = false
 is_at_door (Some (socket.Member peer end is_leaving)) = false
+
+-- it is a control client, by this place
+abbrev pub client_of : Option Socket → Option Place
+client_of None = None
+client_of (Some (socket.Listener l)) = None
+client_of (Some (socket.AtDoor peer newcomer)) = None
+client_of (Some socket.Turned) = None
+client_of (Some (socket.Client place)) = Some place
+client_of (Some (socket.Member peer end is_leaving)) = None
 
 -- it is a member
 abbrev pub is_member : Option Socket → Bool
@@ -38,6 +49,7 @@ is_member None = false
 is_member (Some (socket.Listener l)) = false
 is_member (Some (socket.AtDoor peer newcomer)) = false
 is_member (Some socket.Turned) = false
+is_member (Some (socket.Client place)) = false
 is_member (Some (socket.Member peer end is_leaving)) = true
 
 -- who has connected there and wasn't turned away
@@ -46,6 +58,7 @@ peer_of None = None
 peer_of (Some (socket.Listener l)) = None
 peer_of (Some (socket.AtDoor peer newcomer)) = Some peer
 peer_of (Some socket.Turned) = None
+peer_of (Some (socket.Client place)) = None
 peer_of (Some (socket.Member peer end is_leaving)) = Some peer
 
 -- whoever was there was turned away
@@ -57,6 +70,7 @@ abbrev pub staged : Stage → Socket → Socket
 staged so_far (socket.Listener l) = socket.Listener (record l { stage = so_far })
 staged so_far (socket.AtDoor peer newcomer) = socket.AtDoor peer newcomer
 staged so_far socket.Turned = socket.Turned
+staged so_far (socket.Client place) = socket.Client place
 staged so_far (socket.Member peer end is_leaving) = socket.Member peer end is_leaving
 
 -- the first end of a member's reading, or this one where it has had none
@@ -69,6 +83,7 @@ abbrev pub ended : Departure → Socket → Socket
 ended departure (socket.Listener l) = socket.Listener l
 ended departure (socket.AtDoor peer newcomer) = socket.AtDoor peer newcomer
 ended departure socket.Turned = socket.Turned
+ended departure (socket.Client place) = socket.Client place
 ended departure (socket.Member peer end is_leaving) = socket.Member peer (first_end departure end) is_leaving
 
 -- a member waits to be shut, or doesn't
@@ -76,6 +91,7 @@ abbrev pub leaving : Bool → Socket → Socket
 leaving leaves (socket.Listener l) = socket.Listener l
 leaving leaves (socket.AtDoor peer newcomer) = socket.AtDoor peer newcomer
 leaving leaves socket.Turned = socket.Turned
+leaving leaves (socket.Client place) = socket.Client place
 leaving leaves (socket.Member peer end is_leaving) = socket.Member peer end leaves
 
 -- how a listener is shut: by nothing of the system where that wasn't asked to listen
@@ -91,6 +107,7 @@ shut_deed slot None = deed.Turn
 shut_deed slot (Some (socket.Listener l)) = unlisten_deed slot l.stage
 shut_deed slot (Some (socket.AtDoor peer newcomer)) = deed.Shut slot
 shut_deed slot (Some socket.Turned) = deed.Shut slot
+shut_deed slot (Some (socket.Client place)) = deed.Shut slot
 shut_deed slot (Some (socket.Member peer end is_leaving)) = deed.Shut slot
 
 -- the listener of a place, whose guests share their turns with these, and of which the system wasn't asked yet

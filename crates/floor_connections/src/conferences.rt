@@ -5,11 +5,13 @@ use slab::Slab;
 use std::alloc::{AllocError, Global};
 use std::mem;
 
-/// A conference: the slots of its listeners, and whether it was told that it has ended or is broken off.
+/// A conference: the slots of its listeners, whether it was told that it has ended or is broken off, and its users who
+/// were shown out.
 #[derive(Drop)]
 struct Conference {
     listeners: Vec<usize>,
     is_over: bool,
+    removed: Vec<u16>,
 }
 
 /// Conferences by number. Each has a group of turns of its own, from 1 on; the doors share group 0.
@@ -40,6 +42,7 @@ impl Conferences {
         let index = self.items.insert_reserved(Conference {
             listeners: Vec::new(self.alloc),
             is_over: false,
+            removed: Vec::new(self.alloc),
         });
         let _before = self.numbers.insert(conference, index);
         Ok(index.saturating_add(1))
@@ -99,6 +102,43 @@ impl Conferences {
         };
         match self.items.get_mut(*index) {
             Some(item) => !mem::replace(&mut item.is_over, true),
+            None => false,
+        }
+    }
+
+    /// Whoever comes as this user of a conference isn't let in any more. Where memory is refused nothing has changed.
+    pub fn ban(&mut self, conference: u32, user: u16) -> Result<(), AllocError> {
+        if self.is_banned(conference, user) {
+            return Ok(());
+        }
+        let Some(index) = self.numbers.get(&conference) else {
+            return Ok(());
+        };
+        match self.items.get_mut(*index) {
+            Some(item) => {
+                item.removed.push(user)?;
+                Ok(())
+            }
+            None => Ok(()),
+        }
+    }
+
+    /// Whoever comes as this user is let in again.
+    pub fn admit(&mut self, conference: u32, user: u16) {
+        if let Some(index) = self.numbers.get(&conference) {
+            if let Some(item) = self.items.get_mut(*index) {
+                item.removed.retain(|other| *other != user);
+            }
+        }
+    }
+
+    /// Whether whoever comes as this user isn't let in.
+    pub fn is_banned(&self, conference: u32, user: u16) -> bool {
+        let Some(index) = self.numbers.get(&conference) else {
+            return false;
+        };
+        match self.items.get(*index) {
+            Some(item) => item.removed.iter().any(|other| *other == user),
             None => false,
         }
     }

@@ -403,7 +403,12 @@ impl Connections {
         Ok(slot)
     }
 
-    fn open(&mut self, role: Role, group: usize, socket: Socket) -> Result<usize, Refusal>
+    pub(crate) fn open(
+        &mut self,
+        role: Role,
+        group: usize,
+        socket: Socket,
+    ) -> Result<usize, Refusal>
         ensures there { IfOk result (λ slot. socket_at self.new.table slot ≡ Some socket) }
         ensures refused { IfErr result (λ why. why ≡ refusals.Memory) }
         ensures steps { Steps self.old.sockets self.new.sockets }
@@ -593,6 +598,8 @@ impl Connections {
     {
         if self.table.is_member(slot) {
             self.lend(slot, has_bytes, true);
+        } else if self.table.client(slot).is_some() {
+            self.end_client(slot);
         } else {
             self.sockets.fail(slot);
         }
@@ -628,7 +635,7 @@ impl Connections {
 fn remove_from(conferences: &mut Conferences, place: Place, listener: usize) {
     match place {
         Place::Port { conference, .. } => conferences.remove_listener(conference, listener),
-        Place::Door { .. } | Place::Health { .. } => {}
+        Place::Door { .. } | Place::Health { .. } | Place::Control | Place::Observe => {}
     }
 }
 
@@ -651,7 +658,7 @@ fn is_port_of(table: &Table, slot: usize, conference: u32) -> bool {
                 conference: other,
                 ..
             } => other == conference,
-            Place::Door { .. } | Place::Health { .. } => false,
+            Place::Door { .. } | Place::Health { .. } | Place::Control | Place::Observe => false,
         },
         None => false,
     }

@@ -27,6 +27,8 @@ pub enum Deed {
     /// Shut this socket down, both ways, and close it; what stands unread is read and thrown away first, so that no
     /// reset takes back what was sent. Answered by `shut`.
     Shut(usize),
+    /// Serve a turn of what a control client has left over. Answered by `client_served`.
+    Serve(usize),
     /// Tell the log. Not answered.
     Log(Entry),
     /// A turn was served, or somebody was seen to, without a call of the system. Not answered: the poll may be asked

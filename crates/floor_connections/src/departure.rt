@@ -21,6 +21,8 @@ pub enum Departure {
     Closed,
     /// Its conference was broken off.
     BrokenOff,
+    /// It was shown out.
+    Removed,
     /// The server stops.
     Stopped,
 }
@@ -38,6 +40,7 @@ impl Departure {
             | Departure::Slow
             | Departure::Closed
             | Departure::BrokenOff
+            | Departure::Removed
             | Departure::Stopped => false,
         }
     }
@@ -54,6 +57,7 @@ impl Departure {
             Departure::Slow => "Slow",
             Departure::Closed => "Closed",
             Departure::BrokenOff => "BrokenOff",
+            Departure::Removed => "Removed",
             Departure::Stopped => "Stopped",
         }
     }

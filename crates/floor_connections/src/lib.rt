@@ -6,6 +6,7 @@
 #![tactic(auto)]
 
 mod asked;
+mod clients;
 mod conferences;
 mod connections;
 mod deed;

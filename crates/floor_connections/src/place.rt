@@ -2,7 +2,7 @@
 
 use floor_doors::NamedBy;
 
-/// Where is listened: a TCP port.
+/// Where is listened: a TCP port, or the socket of the control clients, of which the caller knows where it is.
 #[derive(Clone, Copy, Debug, PartialEq, Eq)]
 pub enum Place {
     /// A user's: whoever connects there is this user of this conference.
@@ -20,6 +20,10 @@ pub enum Place {
     Health {
         port: u16,
     },
+    /// The control clients'.
+    Control,
+    /// That of the control clients that read alone.
+    Observe,
 }
 
 /// Who has connected: where, and from which port of its own, 0 where the system doesn't tell.

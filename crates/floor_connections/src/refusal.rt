@@ -13,6 +13,8 @@ pub enum Refusal {
     NotAsked,
     /// Memory was refused for its socket.
     Memory,
+    /// Its user was shown out of the conference.
+    Removed,
     /// Its header at a door says so, or is none.
     AtDoor(DoorRefusal),
     /// Its conference doesn't let it in.
@@ -29,6 +31,7 @@ impl Refusal {
         match self {
             Refusal::NotAsked => "NotAsked",
             Refusal::Memory => "Memory",
+            Refusal::Removed => "Removed",
             Refusal::AtDoor(refusal) => refusal.name(),
             Refusal::AtMeeting(refusal) => refusal.name(),
         }

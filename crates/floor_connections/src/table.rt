@@ -6,7 +6,7 @@ ghost use Rattle.floor_doors.specs.declared.refusal.DoorRefusal.TheVariants as r
 ghost use Rattle.floor_doors.specs.Follows.{follows};
 ghost use Rattle.floor_doors.specs.Newcomer.{Newcomer as Awaited};
 ghost use Rattle.floor_proxy.specs.Header.{proxy};
-ghost use Rattle.floor_connections.specs.Table.{OthersStay, Same, ended, is_at_door, is_member, leaving, listener_of, peer_of, socket_at, staged, turned};
+ghost use Rattle.floor_connections.specs.Table.{OthersStay, Same, client_of, ended, is_at_door, is_member, leaving, listener_of, peer_of, socket_at, staged, turned};
 ghost use Rattle.floor_connections.specs.declared.place.Peer.{Peer as Who};
 ghost use Rattle.floor_connections.specs.declared.table.Socket.TheVariants.{AtDoor, Member};
 
@@ -48,6 +48,8 @@ pub enum Socket {
     },
     /// Somebody who isn't let in, or was only looking: it is to be shut.
     Turned,
+    /// A control client, by this place. What came of it and what is to be written to it is its caller's.
+    Client(Place),
     /// A member, how its reading ended, where it has, and whether it waits to be shut, since nothing is lent to it.
     Member {
         peer: Peer,
@@ -119,7 +121,15 @@ impl Table {
     {
         match self.slots.get(slot) {
             Some(Some(Socket::Listener(listener))) => Some(*listener),
-            Some(Some(Socket::AtDoor { .. } | Socket::Turned | Socket::Member { .. }) | None)
+            Some(
+                Some(
+                    Socket::AtDoor { .. }
+                    | Socket::Turned
+                    | Socket::Client(_)
+                    | Socket::Member { .. },
+                )
+                | None,
+            )
             | None => None,
         }
     }
@@ -144,7 +154,10 @@ impl Table {
         if let Some(socket) = place {
             match socket {
                 Socket::Listener(listener) => listener.stage = stage,
-                Socket::AtDoor { .. } | Socket::Turned | Socket::Member { .. } => {}
+                Socket::AtDoor { .. }
+                | Socket::Turned
+                | Socket::Client(_)
+                | Socket::Member { .. } => {}
             }
         }
     }
@@ -156,7 +169,8 @@ impl Table {
         match self.slots.get(slot) {
             Some(Some(Socket::AtDoor { peer, .. })) => Some(*peer),
             Some(Some(Socket::Member { peer, .. })) => Some(*peer),
-            Some(Some(Socket::Listener(_) | Socket::Turned) | None) | None => None,
+            Some(Some(Socket::Listener(_) | Socket::Turned | Socket::Client(_)) | None) | None =>
+                None,
         }
     }
 
@@ -178,7 +192,8 @@ impl Table {
         match place {
             Some(socket) => match socket {
                 Socket::AtDoor { newcomer, .. } => newcomer.came(bytes),
-                Socket::Listener(_) | Socket::Turned | Socket::Member { .. } => Verdict::LetGo,
+                Socket::Listener(_) | Socket::Turned | Socket::Client(_) | Socket::Member { .. } =>
+                    Verdict::LetGo,
             },
             None => Verdict::LetGo,
         }
@@ -191,7 +206,15 @@ impl Table {
     {
         match self.slots.get(slot) {
             Some(Some(Socket::AtDoor { newcomer, .. })) => newcomer.ended(),
-            Some(Some(Socket::Listener(_) | Socket::Turned | Socket::Member { .. }) | None)
+            Some(
+                Some(
+                    Socket::Listener(_)
+                    | Socket::Turned
+                    | Socket::Client(_)
+                    | Socket::Member { .. },
+                )
+                | None,
+            )
             | None => Verdict::LetGo,
         }
     }
@@ -220,7 +243,15 @@ impl Table {
     {
         match self.slots.get(slot) {
             Some(Some(Socket::Member { .. })) => true,
-            Some(Some(Socket::Listener(_) | Socket::AtDoor { .. } | Socket::Turned) | None)
+            Some(
+                Some(
+                    Socket::Listener(_)
+                    | Socket::AtDoor { .. }
+                    | Socket::Turned
+                    | Socket::Client(_),
+                )
+                | None,
+            )
             | None => false,
         }
     }
@@ -240,7 +271,8 @@ impl Table {
                     *is_leaving = leaves;
                     is_new
                 }
-                Socket::Listener(_) | Socket::AtDoor { .. } | Socket::Turned => false,
+                Socket::Listener(_) | Socket::AtDoor { .. } | Socket::Turned | Socket::Client(_) =>
+                    false,
             },
             None => false,
         }
@@ -273,7 +305,8 @@ impl Table {
                         *end = Some(departure);
                     }
                 }
-                Socket::Listener(_) | Socket::AtDoor { .. } | Socket::Turned => {}
+                Socket::Listener(_) | Socket::AtDoor { .. } | Socket::Turned | Socket::Client(_) =>
+                    {}
             }
         }
     }
@@ -292,9 +325,44 @@ impl Table {
     {
         match self.slots.get(slot) {
             Some(Some(Socket::AtDoor { .. })) => true,
-            Some(Some(Socket::Listener(_) | Socket::Turned | Socket::Member { .. }) | None)
+            Some(
+                Some(
+                    Socket::Listener(_)
+                    | Socket::Turned
+                    | Socket::Client(_)
+                    | Socket::Member { .. },
+                )
+                | None,
+            )
             | None => false,
         }
+    }
+
+    /// The place by which a control client came that is at a socket.
+    pub fn client(&self, slot: usize) -> Option<Place>
+        ensures value { result ≡ client_of (socket_at self.now slot) }
+    {
+        match self.slots.get(slot) {
+            Some(Some(Socket::Client(place))) => Some(*place),
+            Some(
+                Some(
+                    Socket::Listener(_)
+                    | Socket::AtDoor { .. }
+                    | Socket::Turned
+                    | Socket::Member { .. },
+                )
+                | None,
+            )
+            | None => None,
+        }
+    }
+
+    /// How many members have sockets.
+    pub fn members_len(&self) -> usize {
+        self.slots
+            .iter()
+            .filter(|socket| has_member(socket))
+            .count()
     }
 
     /// Whether somebody is at a socket.
@@ -305,6 +373,14 @@ impl Table {
             Some(Some(_)) => true,
             Some(None) | None => false,
         }
+    }
+}
+
+/// Whether it is a member.
+fn has_member(socket: &Option<Socket>) -> bool {
+    match socket {
+        Some(Socket::Member { .. }) => true,
+        _ => false,
     }
 }
 

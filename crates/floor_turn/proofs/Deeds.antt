@@ -25,6 +25,7 @@ by_deed slot None d is other = absurd (other is)
 by_deed slot (Some (socket.Listener l)) d is other = by_stage slot l.stage d is other
 by_deed slot (Some (socket.AtDoor peer newcomer)) d is other = inl is
 by_deed slot (Some socket.Turned) d is other = inl is
+by_deed slot (Some (socket.Client place)) d is other = inl is
 by_deed slot (Some (socket.Member peer end is_leaving)) d is other = inl is
 
 same_slot : (slot k : ℕ) → ◌≡◌ {A = Option Asked} (Some (asked.Shut slot)) (Some (asked.Shut k)) → slot ≡ k

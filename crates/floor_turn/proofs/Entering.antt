@@ -49,6 +49,7 @@ member_ended d None = refl
 member_ended d (Some (socket.Listener l)) = refl
 member_ended d (Some (socket.AtDoor peer newcomer)) = refl
 member_ended d (Some socket.Turned) = refl
+member_ended d (Some (socket.Client place)) = refl
 member_ended d (Some (socket.Member peer end is_leaving)) = refl
 
 pub kept_members : (slot : ℕ) (d : Departure) (old new : Table) → socket_at new slot ≡ option_map (ended d) (socket_at old slot) → OthersStay slot old new → (k : ℕ) → is_member (socket_at new k) ≡ is_member (socket_at old k)
@@ -66,6 +67,7 @@ door_peer None at = never ((peer : Peer) × (peer_of None ≡ Some peer)) at
 door_peer (Some (socket.Listener l)) at = never ((peer : Peer) × (peer_of (Some (socket.Listener l)) ≡ Some peer)) at
 door_peer (Some (socket.AtDoor peer newcomer)) at = (peer, refl)
 door_peer (Some socket.Turned) at = never ((peer : Peer) × (peer_of (Some socket.Turned) ≡ Some peer)) at
+door_peer (Some (socket.Client place)) at = never ((peer : Peer) × (peer_of (Some (socket.Client place)) ≡ Some peer)) at
 door_peer (Some (socket.Member peer end is_leaving)) at = never ((other : Peer) × (peer_of (Some (socket.Member peer end is_leaving)) ≡ Some other)) at
 
 -- what is said of a header comes true, unless memory was refused for it

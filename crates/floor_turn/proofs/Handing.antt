@@ -10,7 +10,7 @@ use Rattle.floor_sockets.specs.declared.deadlines.Deadline.{Deadline}
 use Rattle.floor_sockets.specs.Sockets.{IsDone, Rests, Sockets}
 use Rattle.floor_proxy.specs.declared.header.NamedBy.{NamedBy}
 use Rattle.floor_connections.specs.declared.place.Place.{Place}
-use Rattle.floor_connections.specs.declared.place.Place.TheVariants.{Door, Health, Port}
+use Rattle.floor_connections.specs.declared.place.Place.TheVariants.{Control, Door, Health, Observe, Port}
 use Rattle.floor_connections.specs.declared.refusal.Refusal.{Refusal}
 use Rattle.floor_connections.specs.declared.table.Listener.{Listener}
 
@@ -60,6 +60,13 @@ not_door named_by port c u p same = cc
 
 pub not_health : (port c u p : ℕ) → ◌≡◌ {A = Place} (Health port) (Port c u p) → ⊥
 not_health port c u p same = cc
+
+-- nor are the clients' sockets
+pub not_control : (c u p : ℕ) → ◌≡◌ {A = Place} Control (Port c u p) → ⊥
+not_control c u p same = cc
+
+pub not_observe : (c u p : ℕ) → ◌≡◌ {A = Place} Observe (Port c u p) → ⊥
+not_observe c u p same = cc
 
 -- a port's user is one
 pub port_fields : (c u p d v q : ℕ) → ◌≡◌ {A = Place} (Port c u p) (Port d v q) → (c ≡ d) × (u ≡ v)

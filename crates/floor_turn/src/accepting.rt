@@ -22,6 +22,7 @@ use crate::server::{Course, Server};
 use floor_connections::{Connections, Entry, Fault, Peer, Place, Refusal};
 use floor_meetings::{JoinRefusal, Meetings};
 use floor_room::Phase;
+use floor_sockets::Role;
 
 impl Server {
     /// The poll told that somebody waits at a listener.
@@ -62,8 +63,8 @@ impl Server {
     }
 
     /// One was accepted at a listener, from this port of its own: gives its socket's number. At a user's port it is a
-    /// member at once; at a door its header is awaited, five seconds at most. Who is refused has no number, and is to be
-    /// closed.
+    /// member at once; at a door its header is awaited, five seconds at most; at the control clients' it is one. Who is
+    /// refused has no number, and is to be closed.
     pub fn accepted(&mut self, listener: usize, port: u16, now: u64) -> Result<usize, Refusal>
         ensures joined { IfOk result (λ socket. (l : Where) (c u p : ℕ)
             → listener_of (socket_at self.old.connections.table listener) ≡ Some l
@@ -152,6 +153,8 @@ impl Server {
             } => self.enter_at_port(peer, group, conference, user),
             Place::Door { named_by, .. } => self.connections.open_at_door(peer, named_by),
             Place::Health { .. } => self.connections.open_probe(),
+            Place::Control => self.connections.open_client(peer.place, Role::Control),
+            Place::Observe => self.connections.open_client(peer.place, Role::Observer),
         }
     }
 
@@ -199,9 +202,13 @@ impl Server {
         ensures moves { Moves nothing_taken self.old.meetings self.new.meetings }
         ensures steps { Steps self.old.connections.sockets self.new.connections.sockets }
     {
+        if self.connections.conferences.is_banned(conference, user) {
+            return Err(Refusal::Removed);
+        }
         if is_full_for(&self.meetings, conference, user) {
             return Err(Refusal::AtMeeting(JoinRefusal::UserConnections));
         }
+        self.touched = Some(conference);
         let now = self.connections.millis();
         let gone = self.meetings.make_room(self.alloc, conference, user, now);
         let joined = self

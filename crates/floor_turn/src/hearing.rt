@@ -22,7 +22,7 @@ ghost use Rattle.floor_connections.specs.declared.table.Listener.{Listener as Wh
 ghost use Rattle.floor_turn.specs.Entering.{EntersOrNot, IsTurnedAway};
 ghost use Rattle.floor_turn.specs.Moves.{Moves, nothing_taken};
 
-use crate::meeting::{broken_at, end_of_stream};
+use crate::meeting::{broken_at, end_of_stream, touched_at};
 use crate::server::Server;
 use floor_connections::{Connections, Departure, Refusal, is_reading};
 use floor_doors::Verdict;
@@ -75,6 +75,7 @@ impl Server {
         if !is_reading(&self.connections.sockets, socket) {
             return;
         }
+        self.touched = touched_at(&self.meetings, socket, self.touched);
         if self.connections.table.is_at_door(socket) {
             let verdict = self.connections.table.came_at_door(socket, bytes);
             self.act_on(socket, verdict, bytes);
@@ -113,6 +114,7 @@ impl Server {
         if !is_reading(&self.connections.sockets, socket) {
             return;
         }
+        self.touched = touched_at(&self.meetings, socket, self.touched);
         if self.connections.table.is_at_door(socket) {
             let verdict = self.connections.table.ended_at_door(socket);
             self.act_on(socket, verdict, &[]);
@@ -143,6 +145,7 @@ impl Server {
         if !is_reading(&self.connections.sockets, socket) {
             return;
         }
+        self.touched = touched_at(&self.meetings, socket, self.touched);
         if self.connections.table.is_at_door(socket) {
             let verdict = self.connections.table.ended_at_door(socket);
             self.act_on(socket, verdict, &[]);
@@ -162,6 +165,7 @@ impl Server {
         ensures moves { Moves nothing_taken self.old.meetings self.new.meetings }
         ensures steps { Steps self.old.connections.sockets self.new.connections.sockets }
     {
+        self.touched = touched_at(&self.meetings, socket, self.touched);
         let served = self.meetings.serve(socket, self.connections.millis());
         let has_more = note(&mut self.connections, &self.meetings, socket, served);
         self.connections.sockets.served(socket, has_more);

@@ -153,3 +153,19 @@ fn is_of(meetings: &Meetings, number: ConnNo, user: u16) -> bool
         None => false,
     }
 }
+
+/// The conference of the member in a slot; the other where there is none.
+pub(crate) fn touched_at(meetings: &Meetings, slot: usize, other: Option<u32>) -> Option<u32> {
+    match meetings.get(slot) {
+        Some(member) => Some(member.conference),
+        None => other,
+    }
+}
+
+/// That of the member with this number; the other where there is none.
+pub(crate) fn touched_by(meetings: &Meetings, number: ConnNo, other: Option<u32>) -> Option<u32> {
+    match meetings.hub().place(number) {
+        Some(place) => Some(place.conference),
+        None => other,
+    }
+}

@@ -109,6 +109,7 @@ impl Server {
         ensures steps { Steps self.old.connections.sockets self.new.connections.sockets }
     {
         self.connections.pass(now);
+        self.touched = Some(conference);
         let done = self
             .meetings
             .act(conference, act, self.connections.millis());
@@ -165,7 +166,7 @@ impl Server {
 }
 
 /// A conference that was closed or is broken off by now is told of, once, and its ports aren't listened on any more.
-fn see_to_phase(connections: &mut Connections, meetings: &Meetings, conference: u32)
+pub(crate) fn see_to_phase(connections: &mut Connections, meetings: &Meetings, conference: u32)
     ensures table { connections.new.table ≡ connections.old.table }
     ensures steps { Steps connections.old.sockets connections.new.sockets }
 {

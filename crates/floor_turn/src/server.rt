@@ -34,7 +34,7 @@ pub(crate) enum Course {
 ///
 /// - At the start: `new`, `with_grace` or `with_grace_for_all`; `door` for each door, `health` for each port of probes,
 ///   `open` for each conference.
-/// - While it runs: `open`, `port`, `act`, `close`, `forget`; `hub` lends the loop, by which conferences are read, and
+/// - While it runs: `open`, `port`, `act`, `say`, `remove`, `close`, `forget`; `hub` lends the loop, by which conferences are read, and
 ///   `member` says who is at a socket. `stop` ends it.
 /// - The poll's words: `readable`, `writable` for sockets and `knocked` for listeners, whenever it says so; and `time`.
 /// - Deeds: `next` says what is to be done, one after another until it gives none. Each is done at once, and answered
@@ -54,6 +54,8 @@ pub struct Server {
     pub(crate) fault: Option<Fault>,
     /// Whether a member stays too whose stream ended in order.
     pub(crate) is_for_all: bool,
+    /// The conference that the last calls asked something of.
+    pub(crate) touched: Option<u32>,
 }
 
 impl Server {
@@ -71,6 +73,7 @@ impl Server {
             course: Course::Starting,
             fault: None,
             is_for_all: false,
+            touched: None,
         }
     }
 
@@ -88,6 +91,7 @@ impl Server {
             course: Course::Starting,
             fault: None,
             is_for_all: false,
+            touched: None,
         }
     }
 
@@ -104,6 +108,7 @@ impl Server {
             course: Course::Starting,
             fault: None,
             is_for_all: true,
+            touched: None,
         }
     }
 

@@ -7,7 +7,7 @@ ghost use Rattle.floor_connections.specs.Asked.{shuts};
 ghost use Rattle.floor_connections.specs.Steps.{Steps};
 ghost use Rattle.floor_turn.specs.Moves.{Moves, nothing_taken};
 
-use crate::meeting::{departure_of, part, who_at};
+use crate::meeting::{departure_of, part, touched_at, who_at};
 use crate::server::{Course, Server};
 use floor_connections::{Connections, Entry, Peer, Refusal, is_shutting};
 use floor_doors::DoorRefusal;
@@ -75,6 +75,7 @@ impl Server {
         ensures moves { Moves nothing_taken self.old.meetings self.new.meetings }
         ensures sockets { self.new.connections.sockets ≡ self.old.connections.sockets }
     {
+        self.touched = touched_at(&self.meetings, socket, self.touched);
         let is_stopping = self.course == Course::Closing;
         let end = self.connections.table.end_of(socket);
         let departure = departure_of(&self.meetings, socket, end, is_stopping);

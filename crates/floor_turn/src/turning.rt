@@ -11,6 +11,7 @@ ghost use Rattle.floor_turn.specs.Course.{is_serving};
 ghost use Rattle.floor_turn.specs.Over.{IsHandedOut};
 ghost use Rattle.floor_turn.specs.Moves.{Moves, nothing_taken};
 
+use crate::meeting::touched_by;
 use crate::server::{Course, Server};
 use crate::shutting::end_all;
 use floor_connections::{Connections, Deed, Entry, Who};
@@ -92,6 +93,7 @@ impl Server {
                 false
             }
             Some(Due::Away(number)) => {
+                self.touched = touched_by(&self.meetings, number, self.touched);
                 let _left = self.meetings.leave_away(number, now);
                 let who = self.connections.forget_away(number);
                 tell_left(&mut self.connections, who);
@@ -138,11 +140,22 @@ impl Server {
             Asked::Accept(listener) => Deed::Accept(listener),
             Asked::Read(socket) => Deed::Read(socket),
             Asked::Write(socket) => Deed::Write(socket),
-            Asked::Serve(socket) => {
+            Asked::Serve(socket) => self.serve_next(socket),
+            Asked::Shut(socket) => self.shut_next(socket),
+        }
+    }
+
+    /// What is left over of a socket is served: of a client its caller does it.
+    fn serve_next(&mut self, socket: usize) -> Deed
+        ensures moves { Moves nothing_taken self.old.meetings self.new.meetings }
+        ensures steps { Steps self.old.connections.sockets self.new.connections.sockets }
+    {
+        match self.connections.table.client(socket) {
+            Some(_) => Deed::Serve(socket),
+            None => {
                 self.serve(socket);
                 Deed::Turn
             }
-            Asked::Shut(socket) => self.shut_next(socket),
         }
     }
 

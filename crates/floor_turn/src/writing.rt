@@ -10,6 +10,7 @@ ghost use Rattle.floor_connections.specs.Asked.{is_ending, writes};
 ghost use Rattle.floor_connections.specs.Steps.{Steps};
 ghost use Rattle.floor_turn.specs.Moves.{Moves, nothing_taken, taken_at, taken_of};
 
+use crate::meeting::touched_at;
 use crate::server::Server;
 use floor_connections::{Connections, is_writing};
 use floor_meetings::{Meetings, Ready};
@@ -46,6 +47,7 @@ impl Server {
         if !is_writing(&self.connections.sockets, socket) {
             return;
         }
+        self.touched = touched_at(&self.meetings, socket, self.touched);
         let lent = self.meetings.lent(socket).len();
         self.meetings.took(socket, count, self.connections.millis());
         self.connections.sockets.took(socket, count, lent);

@@ -156,6 +156,7 @@ impl Paged {
                 text.push_str("end cannot listen ")?;
                 tell_place(text, place)
             }
+            Deed::Serve(socket) => write!(text, "serve {socket}"),
             Deed::Log(_) | Deed::Turn => Ok(()),
         }
     }
@@ -222,6 +223,8 @@ fn tell_place(text: &mut String, place: Place) -> Result<(), AllocError> {
         } => write!(text, "port {port} of {conference}.{user}"),
         Place::Door { port, .. } => write!(text, "door {port}"),
         Place::Health { port } => write!(text, "health {port}"),
+        Place::Control => text.push_str("control"),
+        Place::Observe => text.push_str("observe"),
     }
 }
 

@@ -4,6 +4,9 @@ use Rattle.floor_connections.proofs.Steps.{steps_same, steps_then}
 use Rattle.floor_turn.proofs.Moving.{moves_one, moves_same, moves_then}
 use Rattle.floor_turn.proofs.server.Server.join.Goals as goal
 
+pub returns-then-is_banned-clause-moves : goal.returns-then-is_banned-clause-moves
+returns-then-is_banned-clause-moves c = moves_same c.args.self.now.meetings c.args.self.now.meetings refl
+
 pub returns-then-is_full_for-clause-moves : goal.returns-then-is_full_for-clause-moves
 returns-then-is_full_for-clause-moves c = moves_same c.args.self.now.meetings c.args.self.now.meetings refl
 
