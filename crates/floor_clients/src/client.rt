@@ -157,7 +157,7 @@ impl Client {
     }
 
     /// Whether a line of it may be served: it isn't to be closed, awaits nothing, and no answer is under way.
-    fn is_free(&self) -> bool
+    pub fn is_free(&self) -> bool
         ensures value { result ≡ is_free self.now }
     {
         !self.is_over() && is_nothing(&self.asked) && self.outgoing.answer_len() == 0
