@@ -1,3 +1,4 @@
 pub mod Ports
 pub mod Steps
 pub mod Ending
+pub mod Users

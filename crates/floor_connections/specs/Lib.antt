@@ -2,5 +2,6 @@
 pub mod Names
 pub mod Asked
 pub mod Table
+pub mod Conferences
 pub mod Ports
 pub mod Steps

@@ -1,5 +1,5 @@
 -- What a call does to the table of sockets: calls of floor_sockets, one behind another.
-use Rattle.std.specs.Prelude.{◌≡◌, ℕ, Bool, false, List}
+use Rattle.std.specs.Prelude.{◌≡◌, ℕ, Bool, false, List, max}
 use Rattle.floor_sockets.specs.Sockets.{Sockets}
 use Rattle.floor_sockets.specs.Laws.{have_shut}
 use Rattle.floor_sockets.specs.Runs.{Call, Calls}
@@ -17,3 +17,7 @@ nobody slot = false
 -- Such calls by which nobody's Shut was given.
 abbrev pub Steps : Sockets → Sockets → Type 0
 Steps = StepsBy nobody
+
+-- the table so late, unless it was later before
+abbrev pub at_time : ℕ → Sockets → Sockets
+at_time now s = record s { time = max s.time now }

@@ -1,5 +1,5 @@
 -- Who is at which socket.
-use Rattle.std.specs.Prelude.{◌≡◌, ℕ, Bool, true, false, Option, Some, None, nat_eq, slice_index_or}
+use Rattle.std.specs.Prelude.{◌≡◌, ℕ, Bool, true, false, Option, Some, None, count_by, nat_eq, slice_index_or}
 use Rattle.floor_connections.specs.declared.deed.Deed.{Deed}
 use Rattle.floor_connections.specs.declared.deed.Deed.TheVariants as deed
 use Rattle.floor_connections.specs.declared.departure.Departure.{Departure}
@@ -51,6 +51,10 @@ is_member (Some (socket.AtDoor peer newcomer)) = false
 is_member (Some socket.Turned) = false
 is_member (Some (socket.Client place)) = false
 is_member (Some (socket.Member peer end is_leaving)) = true
+
+-- how many sockets are members'
+abbrev pub members_in : Table → ℕ
+members_in t = count_by is_member t.slots.items
 
 -- who has connected there and wasn't turned away
 abbrev pub peer_of : Option Socket → Option Peer

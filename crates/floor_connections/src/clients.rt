@@ -1,8 +1,9 @@
 //! The sockets of control clients, whose bytes are the caller's.
 
-ghost use Rattle.std.specs.Prelude.{◌≡◌, IfErr, IfOk, Some, false, true};
+ghost use Rattle.std.specs.Prelude.{◌≡◌, ◌&&◌, ℕ, IfErr, IfOk, Some, false, nat_eq, not, option_map, true};
+ghost use Rattle.floor_sockets.specs.Life.{held, lent};
 ghost use Rattle.floor_sockets.specs.Sockets.{life_at};
-ghost use Rattle.floor_connections.specs.Asked.{is_ending};
+ghost use Rattle.floor_connections.specs.Asked.{is_ending, is_over};
 ghost use Rattle.floor_connections.specs.Steps.{Steps};
 ghost use Rattle.floor_connections.specs.Table.{socket_at};
 ghost use Rattle.floor_connections.specs.declared.refusal.Refusal.TheVariants as refusals;
@@ -28,7 +29,12 @@ impl Connections {
     /// Bytes are lent to a client, or none; it is neither read nor served, or is. One that ends has ten seconds to take
     /// what is lent, and is shut before where nothing is.
     pub fn lend_client(&mut self, slot: usize, has_bytes: bool, is_held: bool, ends: bool)
+        ensures goes_on { ends ≡ false → is_over (life_at self.old.sockets slot) ≡ false
+            → life_at self.new.sockets slot
+            ≡ option_map (λ l. held is_held (lent has_bytes l)) (life_at self.old.sockets slot) }
         ensures ends { ends ≡ true → is_ending (life_at self.new.sockets slot) ≡ true }
+        ensures others { (k : ℕ) → nat_eq slot k ≡ false
+            → life_at self.new.sockets k ≡ life_at self.old.sockets k }
         ensures table { self.new.table ≡ self.old.table }
         ensures steps { Steps self.old.sockets self.new.sockets }
     {
@@ -44,6 +50,8 @@ impl Connections {
     /// A client is to be shut once what is lent to it is taken, at latest after ten seconds.
     pub fn end_client(&mut self, slot: usize)
         ensures ends { is_ending (life_at self.new.sockets slot) ≡ true }
+        ensures others { (k : ℕ) → nat_eq slot k ≡ false
+            → life_at self.new.sockets k ≡ life_at self.old.sockets k }
         ensures table { self.new.table ≡ self.old.table }
         ensures steps { Steps self.old.sockets self.new.sockets }
     {
@@ -58,7 +66,7 @@ impl Connections {
 
 /// Whether a client is served on: it doesn't end, and isn't to be shut down already.
 fn goes_on(sockets: &Sockets, slot: usize, ends: bool) -> bool
-    ensures ends { ends ≡ true → result ≡ false }
+    ensures value { result ≡ (not ends && not (is_over (life_at sockets.now slot))) }
 {
     !ends && !is_over(sockets, slot)
 }

@@ -78,6 +78,7 @@ impl Connections {
             ≡ record self.old.sockets { time = max self.old.sockets.time now } }
         ensures time { self.new.time ≡ max self.old.time now }
         ensures table { self.new.table ≡ self.old.table }
+        ensures conferences { self.new.conferences ≡ self.old.conferences }
         ensures steps { Steps self.old.sockets self.new.sockets }
     {
         self.time = self.time.max(now);
@@ -327,6 +328,7 @@ impl Connections {
         ensures none { IfNone result ((listener_of (socket_at self.old.table listener) ≡ None)
             ⊎ (accepts (life_at self.old.sockets listener) ≡ false)) }
         ensures not_asked { IfNone result (self.new ≡ self.old) }
+        ensures conferences { self.new.conferences ≡ self.old.conferences }
         ensures steps { Steps self.old.sockets self.new.sockets }
     {
         let known = self.table.listener(listener)?;
@@ -373,6 +375,7 @@ impl Connections {
         ensures there { IfOk result (λ slot. socket_at self.new.table slot
             ≡ Some (somebody.Member peer None false)) }
         ensures refused { IfErr result (λ why. why ≡ refusals.Memory) }
+        ensures conferences { self.new.conferences ≡ self.old.conferences }
         ensures steps { Steps self.old.sockets self.new.sockets }
     {
         let member = Socket::Member {
@@ -411,6 +414,7 @@ impl Connections {
     ) -> Result<usize, Refusal>
         ensures there { IfOk result (λ slot. socket_at self.new.table slot ≡ Some socket) }
         ensures refused { IfErr result (λ why. why ≡ refusals.Memory) }
+        ensures conferences { self.new.conferences ≡ self.old.conferences }
         ensures steps { Steps self.old.sockets self.new.sockets }
     {
         let slot = match self.sockets.open(role, group) {

@@ -1,12 +1,12 @@
 //! Who is at which socket.
 
-ghost use Rattle.std.specs.Prelude.{◌≡◌, ◌≢◌, ◌<◌, ◌++◌, ℕ, None, OnErr, OnOk, Some, if◌then◌else◌, false, is_some, length, option_map, slice_index_or};
+ghost use Rattle.std.specs.Prelude.{◌≡◌, ◌≢◌, ◌<◌, ◌++◌, ℕ, None, OnErr, OnOk, Some, if◌then◌else◌, count_by, false, is_some, length, option_map, slice_index_or};
 ghost use Rattle.floor_doors.specs.declared.newcomer.Verdict.TheVariants as verdict;
 ghost use Rattle.floor_doors.specs.declared.refusal.DoorRefusal.TheVariants as refusal;
 ghost use Rattle.floor_doors.specs.Follows.{follows};
 ghost use Rattle.floor_doors.specs.Newcomer.{Newcomer as Awaited};
 ghost use Rattle.floor_proxy.specs.Header.{proxy};
-ghost use Rattle.floor_connections.specs.Table.{OthersStay, Same, client_of, ended, is_at_door, is_member, leaving, listener_of, peer_of, socket_at, staged, turned};
+ghost use Rattle.floor_connections.specs.Table.{OthersStay, Same, client_of, ended, is_at_door, is_member, leaving, listener_of, members_in, peer_of, socket_at, staged, turned};
 ghost use Rattle.floor_connections.specs.declared.place.Peer.{Peer as Who};
 ghost use Rattle.floor_connections.specs.declared.table.Socket.TheVariants.{AtDoor, Member};
 
@@ -358,11 +358,10 @@ impl Table {
     }
 
     /// How many members have sockets.
-    pub fn members_len(&self) -> usize {
-        self.slots
-            .iter()
-            .filter(|socket| has_member(socket))
-            .count()
+    pub fn members_len(&self) -> usize
+        ensures value { result ≡ members_in self.now }
+    {
+        count_members(self.slots.as_slice())
     }
 
     /// Whether somebody is at a socket.
@@ -376,8 +375,23 @@ impl Table {
     }
 }
 
+/// How many of these are members.
+fn count_members(slots: &[Option<Socket>]) -> usize
+    ensures value { result ≡ count_by is_member slots.now }
+{
+    let mut count = 0;
+    for socket in slots {
+        if has_member(socket) {
+            count += 1;
+        }
+    }
+    count
+}
+
 /// Whether it is a member.
-fn has_member(socket: &Option<Socket>) -> bool {
+fn has_member(socket: &Option<Socket>) -> bool
+    ensures value { result ≡ is_member socket.now }
+{
     match socket {
         Some(Socket::Member { .. }) => true,
         _ => false,

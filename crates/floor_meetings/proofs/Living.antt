@@ -23,7 +23,7 @@ use Rattle.floor_meetings.specs.Joined.{LeftBy}
 use Rattle.floor_meetings.specs.Laws.{TakenIsCalledFor}
 use Rattle.floor_meetings.specs.Meetings.{lent_at, member_at}
 use Rattle.floor_meetings.specs.Members.{Members, slot_of}
-use Rattle.floor_meetings.specs.Runs.{Call, Does, Frees, IsLiving, Lives, Open, Forget, Acts, Says, MakeRoom, Join, Refused, Came, Ended, Failed, Left, Took, Ready, Due, Discard, LeaveAway, bytes_by, taken_by}
+use Rattle.floor_meetings.specs.Runs.{Call, Does, Frees, IsLiving, Lives, Open, Forget, Acts, Says, Keep, MakeRoom, Join, Refused, Came, Ended, Failed, Left, Took, Ready, Due, Discard, LeaveAway, bytes_by, taken_by}
 use Rattle.floor_meetings.specs.steps.Lived.{Led}
 use Rattle.floor_meetings.proofs.Pairing.{Tells, one_slot}
 use Rattle.floor_meetings.proofs.Running.{led-both, led-same, led-timed, one-call, run-append}
@@ -127,6 +127,7 @@ module _ (slot : ℕ) (member : Member) (old new : Meetings) (was : IsLiving slo
   led Forget d = quiet NoSteps d.1
   led (Acts conference act) d = quiet (AtMost 1 (step.Admin conference act)) d.1
   led (Says conference user bytes) d = quiet (AtMost 1 (step.Say conference user bytes)) d.1
+  led Keep d = quiet NoSteps d.1
   led (MakeRoom gone) d = quiet (LeavesIf gone) d.1
   led (Join k conference user) d = quiet (Returns conference user new.hub.attended.away.back) d.quiet
   led (Refused conference user r) d = refused conference user r d.1

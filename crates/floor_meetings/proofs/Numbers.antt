@@ -25,7 +25,7 @@ use Rattle.floor_meetings.specs.Joined.{Joins, LeftBy}
 use Rattle.floor_meetings.specs.Laws.{JoinsAreApart, OthersStay}
 use Rattle.floor_meetings.specs.Meetings.{member_at}
 use Rattle.floor_meetings.specs.Members.{IsPaired, Members, member_in, slot_of}
-use Rattle.floor_meetings.specs.Runs.{Call, Calls, Does, Open, Forget, Acts, Says, MakeRoom, Join, Refused, Came, Ended, Failed, Left, Took, Ready, Due, Discard, LeaveAway}
+use Rattle.floor_meetings.specs.Runs.{Call, Calls, Does, Open, Forget, Acts, Says, Keep, MakeRoom, Join, Refused, Came, Ended, Failed, Left, Took, Ready, Due, Discard, LeaveAway}
 use Rattle.floor_meetings.proofs.Pairing.{Tells, one_member}
 
 -- arrivals don't get fewer
@@ -119,6 +119,7 @@ went (Open config) old new d = went-by (AtMost 1 (step.Open config)) old.hub new
 went Forget old new d = went-by NoSteps old.hub new.hub d.1.steps
 went (Acts conference act) old new d = went-by (AtMost 1 (step.Admin conference act)) old.hub new.hub d.1.steps
 went (Says conference user bytes) old new d = went-by (AtMost 1 (step.Say conference user bytes)) old.hub new.hub d.1.steps
+went Keep old new d = went-by NoSteps old.hub new.hub d.1.steps
 went (MakeRoom who) old new d = went-by (LeavesIf who) old.hub new.hub d.1.steps
 went (Join k conference user) old new d = went-by (Returns conference user new.hub.attended.away.back) old.hub new.hub d.quiet.steps
 went (Refused conference user r) old new d = refused conference user r old.hub new.hub d.1
@@ -198,6 +199,7 @@ keeps (Open config) w v old new i paired stands d = keeps-all v old new d.0
 keeps Forget w v old new i paired stands d = keeps-all v old new d.0
 keeps (Acts conference act) w v old new i paired stands d = keeps-all v old new d.0
 keeps (Says conference user bytes) w v old new i paired stands d = keeps-all v old new d.0
+keeps Keep w v old new i paired stands d = keeps-all v old new d.0
 keeps (MakeRoom who) w v old new i paired stands d = keeps-all v old new d.0
 keeps (Join k conference user) w v old new i paired stands d = joins v k conference user old new d (nobodys w old d.member.number i paired d.returned.next) stands
 keeps (Refused conference user r) w v old new i paired stands d = kept v old new d.0.slots

@@ -52,19 +52,26 @@ pub record HasNone (conference user : ℕ) (m : Meetings) : Type 0 where
   pub own : of_user m.members user live < m.bounds.of_user
   pub all : m.bounds.of_conference ≤ in_slots m.members live
 
--- Why a user doesn't join in a slot, so far as it can be told before: the first that applies. The hub refuses it in front where it has no such conference.
+-- Why a user may not join in a slot: the first that applies. Of memory nothing is told before.
 abbrev pub IsRefused : ℕ → ℕ → ℕ → Meetings → JoinRefusal → Type 0
 IsRefused slot conference user m InUse = is_some (member_at m slot) ≡ true
 IsRefused slot conference user m UserConnections = (member_at m slot ≡ None) × HasNoneForUser conference user m
 IsRefused slot conference user m Connections = (member_at m slot ≡ None) × HasNone conference user m
-IsRefused slot conference user m Memory = (member_at m slot ≡ None) × HasPlaces conference user m
-IsRefused slot conference user m (ByHub r) = (member_at m slot ≡ None) × ((room_at m.hub.hub conference ≡ None) ⊎ HasPlaces conference user m)
+IsRefused slot conference user m Memory = ⊥
+IsRefused slot conference user m (ByHub r) = (member_at m slot ≡ None) × (room_at m.hub.hub conference ≡ None)
 
--- The slot had nobody, and there were places. It has a member of this conference and this user now, by an attach of the loop's that is no other's, and is
+-- a join that may be is refused so: memory was refused for the slot, or the loop refuses it
+abbrev pub is_late : JoinRefusal → Bool
+is_late InUse = false
+is_late UserConnections = false
+is_late Connections = false
+is_late Memory = true
+is_late (ByHub r) = true
+
+-- The slot had nobody. It has a member of this conference and this user now, by an attach of the loop's that is no other's, and is
 -- ready; no other slot has changed.
 pub record Joins (slot conference user : ℕ) (old new : Meetings) : Type 0 where
   pub free : member_at old slot ≡ None
-  pub places : HasPlaces conference user old
   pub member : Member
   pub here : member_at new slot ≡ Some member
   pub place : (member.conference ≡ conference) × (member.user ≡ user)

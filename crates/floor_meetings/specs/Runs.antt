@@ -21,6 +21,7 @@ pub data Call : Type 0 where
   Forget : Call
   Acts : (conference : ℕ) → Act → Call
   Says : (conference user : ℕ) → List ℕ → Call
+  Keep : Call
   MakeRoom : Option ℕ → Call
   Join : (slot conference user : ℕ) → Call
   Refused : (conference user : ℕ) → JoinRefusal → Call
@@ -49,6 +50,7 @@ Does (Open config) old new = Same old new × Quiet (AtMost 1 (step.Open config))
 Does Forget old new = Same old new × Quiet NoSteps old.hub new.hub
 Does (Acts conference act) old new = Same old new × Quiet (AtMost 1 (step.Admin conference act)) old.hub new.hub
 Does (Says conference user bytes) old new = Same old new × Quiet (AtMost 1 (step.Say conference user bytes)) old.hub new.hub
+Does Keep old new = Same old new × Quiet NoSteps old.hub new.hub
 Does (MakeRoom gone) old new = Same old new × Quiet (LeavesIf gone) old.hub new.hub
 Does (Join slot conference user) old new = Joins slot conference user old new
 Does (Refused conference user r) old new = SameSlots old new × LeftBy r conference user old.hub new.hub

@@ -8,6 +8,7 @@
 
 mod bounds;
 mod counting;
+mod keeping;
 mod laws;
 mod meetings;
 mod members;

@@ -1,6 +1,6 @@
 //! Sockets that are members', by their slots.
 
-ghost use Rattle.std.specs.Prelude.{◌≡◌, ◌≤◌, ◌<◌, ◌⊎◌, ℕ, IfErr, IfNone, IfOk, IfSome, IsSome, MatchOption, None, Ok, OnErr, OnOk, Some, [], false, length, max, min, nat_eq};
+ghost use Rattle.std.specs.Prelude.{◌≡◌, ◌≤◌, ◌<◌, ◌⊎◌, ℕ, IfErr, IfNone, IfOk, IfSome, IsSome, MatchOption, None, Ok, OnErr, OnOk, Some, [], false, length, max, min, nat_eq, true};
 ghost use Rattle.floor_room.specs.Room.{Room};
 ghost use Rattle.floor_hub.specs.Connections.{connection_at};
 ghost use Rattle.floor_hub.specs.Hub.{room_at};
@@ -14,7 +14,7 @@ ghost use Rattle.floor_loop.specs.Loop.{IsFilled, outgoing_at, over_at, ready_at
 ghost use Rattle.floor_loop.specs.Returned.{IsKeptPlace, IsOldestOf};
 ghost use Rattle.floor_loop.specs.Written.{IsOver, IsServing, Spares, Wakes};
 ghost use Rattle.floor_meetings.specs.Calls.{Comes, Drops, Ends, Fails, Leaves, Parts, Quiet, Takes};
-ghost use Rattle.floor_meetings.specs.Joined.{HasPlaces, IsRefused, Joins, LeftBy, SameSlots};
+ghost use Rattle.floor_meetings.specs.Joined.{HasPlaces, IsRefused, Joins, LeftBy, SameSlots, is_late};
 ghost use Rattle.floor_meetings.specs.Meetings.{AreCalledFor, due_as, lent_at, member_at, ready_as, shut_by};
 ghost use Rattle.floor_meetings.specs.Members.{IsPaired, slot_of};
 ghost use Rattle.floor_meetings.specs.declared.members.Member.{Member as Known};
@@ -52,8 +52,9 @@ pub enum Due {
 /// Conferences, and which socket is which member of them. Times are milliseconds; one that is earlier than the last
 /// counts as the last.
 ///
-/// - Conferences: `open`, `act`, `say`, `forget`; `hub` lends the loop, by which they are read.
-/// - A socket's life: `join`, behind `make_room`; `came` as bytes come, and `serve` while that says that more may wait;
+/// - Conferences: `open`, `act`, `say`, `forget`; `hub` lends the loop, by which they are read. `begin_keeping`, `keep` and
+///   `end_keeping` say how many of its events are kept.
+/// - A socket's life: `join`, behind `check` and `make_room`; `came` as bytes come, and `serve` while that says that more may wait;
 ///   `ended` and `failed` at the end of the stream and of the socket; `left` once the socket was shut.
 /// - Writing: `ready` names who has something to be written, `lent` lends it, and `took` takes it that the socket took
 ///   so much of it.
@@ -183,7 +184,7 @@ impl Meetings {
     }
 
     /// Where a conference is full, whoever of this user's members there is away since longest leaves, and is named: to
-    /// be called before `join`, so that the user can come back. Where memory is refused for the search nobody leaves.
+    /// be called before `join`, behind `check`, so that the user can come back. Where memory is refused for the search nobody leaves.
     pub fn make_room(
         &mut self,
         alloc: Global,
@@ -202,52 +203,15 @@ impl Meetings {
         self.hub.make_room(alloc, conference, user, now)
     }
 
-    /// A user's socket, in a slot that has no member, joins a conference, as the loop's `attach` has it join: the user's
-    /// members leave that are away there. Its life begins.
+    /// Whether a user may join in a slot, so far as it can be told before: to be called before `make_room`, so that nobody
+    /// leaves for who is refused.
     ///
     /// Refused by the first that applies of: `InUse`; `ByHub`, where there is no such conference; `UserConnections`;
-    /// `Connections`; `Memory`; `ByHub`, as the loop refuses it.
-    pub fn join(
-        &mut self,
-        alloc: Global,
-        slot: usize,
-        conference: u32,
-        user: u16,
-        now: u64,
-    ) -> Result<(), JoinRefusal>
-        ensures took { OnOk result (Joins slot conference user self.old self.new) }
-        ensures refused { IfErr result (IsRefused slot conference user self.old) }
-        ensures full { (r : Room) → room_at self.old.hub.hub conference ≡ Some r
-            → IsKeptPlace conference user r self.old.hub → OnOk result ⊥ }
-        ensures left { IfErr result (λ r. LeftBy r conference user self.old.hub self.new.hub) }
-        ensures slots { OnErr result (SameSlots self.old self.new) }
-        ensures bounds { self.new.bounds ≡ self.old.bounds }
-    {
-        self.check(slot, conference, user)?;
-        match self.members.reserve(slot) {
-            Ok(()) => {}
-            Err(_) => return Err(JoinRefusal::Memory),
-        }
-        match self.hub.attach(alloc, conference, user, now) {
-            Ok(number) => {
-                let member = Member {
-                    number,
-                    conference,
-                    user,
-                };
-                self.members.put(slot, member);
-                Ok(())
-            }
-            Err(refusal) => Err(JoinRefusal::ByHub(refusal)),
-        }
-    }
-
-    /// Whether a user may join in a slot, so far as it can be told before.
-    fn check(&self, slot: usize, conference: u32, user: u16) -> Result<(), JoinRefusal>
+    /// `Connections`.
+    pub fn check(&self, slot: usize, conference: u32, user: u16) -> Result<(), JoinRefusal>
         ensures free { OnOk result (member_at self.now slot ≡ None) }
         ensures places { OnOk result (HasPlaces conference user self.now) }
         ensures refused { IfErr result (IsRefused slot conference user self.now) }
-        ensures left { IfErr result (λ r. LeftBy r conference user self.now.hub self.now.hub) }
     {
         match self.members.get(slot) {
             Some(_) => return Err(JoinRefusal::InUse),
@@ -264,6 +228,45 @@ impl Meetings {
             return Err(JoinRefusal::Connections);
         }
         Ok(())
+    }
+
+    /// A user's socket, in a slot that has no member, joins a conference, as the loop's `attach` has it join: the user's
+    /// members leave that are away there. Its life begins. Whether it may is `check`'s to say.
+    ///
+    /// Refused by `Memory`, where memory is refused for the slot, and by `ByHub`, as the loop refuses it.
+    pub fn join(
+        &mut self,
+        alloc: Global,
+        slot: usize,
+        conference: u32,
+        user: u16,
+        now: u64,
+    ) -> Result<(), JoinRefusal>
+        requires free { member_at self.old slot ≡ None }
+        ensures took { OnOk result (Joins slot conference user self.old self.new) }
+        ensures refused { IfErr result (λ r. is_late r ≡ true) }
+        ensures full { (r : Room) → room_at self.old.hub.hub conference ≡ Some r
+            → IsKeptPlace conference user r self.old.hub → OnOk result ⊥ }
+        ensures left { IfErr result (λ r. LeftBy r conference user self.old.hub self.new.hub) }
+        ensures slots { OnErr result (SameSlots self.old self.new) }
+        ensures bounds { self.new.bounds ≡ self.old.bounds }
+    {
+        match self.members.reserve(slot) {
+            Ok(()) => {}
+            Err(_) => return Err(JoinRefusal::Memory),
+        }
+        match self.hub.attach(alloc, conference, user, now) {
+            Ok(number) => {
+                let member = Member {
+                    number,
+                    conference,
+                    user,
+                };
+                self.members.put(slot, member);
+                Ok(())
+            }
+            Err(refusal) => Err(JoinRefusal::ByHub(refusal)),
+        }
     }
 
     /// Bytes came from the socket in a slot: a turn of its messages is served. Says whether more may wait. Refused as
@@ -327,6 +330,8 @@ impl Meetings {
             (λ m. Parts m.number now self.old.hub self.new.hub result) }
         ensures nobody { member_at self.old slot ≡ None → result ≡ Ok false }
         ensures free { member_at self.new slot ≡ None }
+        ensures gone { (m : Known) → member_at self.old slot ≡ Some m
+            → slot_of self.new.members m.number ≡ None }
         ensures others { (k : ℕ) → nat_eq slot k ≡ false
             → member_at self.new k ≡ member_at self.old k }
         ensures bounds { self.new.bounds ≡ self.old.bounds }

@@ -16,7 +16,7 @@ pub enum JoinRefusal {
     Connections,
     /// Memory was refused for the slot. Nothing has changed.
     Memory,
-    /// The hub refuses it, before these where there is no such conference, and else behind them.
+    /// The hub refuses it: behind `InUse` where there is no such conference, and else behind all others.
     ByHub(HubRefusal),
 }
 

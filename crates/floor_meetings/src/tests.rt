@@ -1,5 +1,6 @@
 use crate::{Act, Bounds, Due, Grace, HubRefusal, JoinRefusal, Meetings, Ready};
 use floor_config::read_configs;
+use floor_loop::Event;
 use std::alloc::{AllocError, Global};
 
 /// Users 10 and 11 of two conferences.
@@ -63,7 +64,7 @@ fn graced(alloc: Global) -> Result<Meetings, AllocError> {
     opened(alloc, Meetings::with_grace(alloc, BOUNDS, grace))
 }
 
-/// What a join came to, by name.
+/// What a join that may be came to, or why it may not be, by name.
 fn join(
     meetings: &mut Meetings,
     alloc: Global,
@@ -71,6 +72,10 @@ fn join(
     conference: u32,
     user: u16,
 ) -> &'static str {
+    match meetings.check(slot, conference, user) {
+        Ok(()) => {}
+        Err(refusal) => return refusal.name(),
+    }
     match meetings.join(alloc, slot, conference, user, 0) {
         Ok(()) => "Ok",
         Err(refusal) => refusal.name(),
@@ -304,5 +309,71 @@ fn a_member_outlives_its_socket(rt: HostRuntime) -> Result<(), AllocError> {
     assert_eq!(rt; meetings.leave_away(1, 1_000), Ok(()));
     assert_eq!(rt; meetings.due(1_000), None);
     assert_eq!(rt; meetings.make_room(alloc, 1, 10, 1_000), None);
+    Ok(())
+}
+
+/// Conference 1 with users 1 to 64, of whom each has a member that is away, as behind a start over a file.
+fn resumed(alloc: Global) -> Result<Meetings, AllocError> {
+    let mut text = String::new(alloc);
+    text.push_str("[[conference]]\nid = 1\nfloor = [{ id = 1 }]\nuser = [")?;
+    let mut events = Vec::new(alloc);
+    for user in 1u16..=64 {
+        write!(text, "{{ id = {user} }}, ")?;
+        events.push(Event::Join { user })?;
+    }
+    text.push_str("]\n")?;
+    let mut meetings = Meetings::new(alloc, BOUNDS);
+    let Ok(mut configs) = read_configs(alloc, text.as_str()) else {
+        return Err(AllocError);
+    };
+    if let Some(config) = configs.pop() {
+        let _resumed = meetings.hub.resume(alloc, config, events.as_slice(), 0);
+    }
+    Ok(meetings)
+}
+
+#[test]
+fn nobody_leaves_for_who_is_refused(rt: HostRuntime) -> Result<(), AllocError> {
+    let alloc = rt.alloc();
+    let mut meetings = resumed(alloc)?;
+    for user in 1u16..=3 {
+        let slot = usize::from(user);
+        assert_eq!(rt; meetings.check(slot, 1, user), Ok(()));
+        assert_eq!(rt; meetings.make_room(alloc, 1, user, 0).is_some(), true);
+        assert_eq!(rt; join(&mut meetings, alloc, slot, 1, user), "Ok");
+    }
+    assert_eq!(rt; meetings.check(4, 1, 4), Err(JoinRefusal::Connections));
+    assert_eq!(rt; meetings.hub().members(1).map_or(0, |live| live.len()), 64);
+    // Of user 4 somebody is away, and would leave.
+    assert_eq!(rt; meetings.make_room(alloc, 1, 4, 0).is_some(), true);
+    assert_eq!(rt; meetings.hub().members(1).map_or(0, |live| live.len()), 63);
+    Ok(())
+}
+
+#[test]
+fn what_is_told_is_lent_once_it_is_kept(rt: HostRuntime) -> Result<(), AllocError> {
+    let alloc = rt.alloc();
+    let mut meetings = two(alloc)?;
+    assert_eq!(rt; meetings.begin_keeping(9), Err(HubRefusal::NoConference));
+    assert_eq!(rt; join(&mut meetings, alloc, 5, 1, 10), "Ok");
+    assert_eq!(rt; join(&mut meetings, alloc, 7, 2, 10), "Ok");
+    assert_eq!(rt; meetings.begin_keeping(1), Ok(()));
+    let _named = ready(&mut meetings, alloc)?;
+    assert_eq!(rt; meetings.came(5, &HELLO, 0), Ok(false));
+    assert_eq!(rt; meetings.came(7, &OTHER_HELLO, 0), Ok(false));
+    let _named = ready(&mut meetings, alloc)?;
+    assert_eq!(rt; lent(&meetings, alloc, 5)?.as_str(), "");
+    assert_eq!(rt; lent(&meetings, alloc, 7)?.as_str(), OTHER_ANSWER);
+    // The join is kept, and then the Hello too.
+    assert_eq!(rt; meetings.keep(1, 1), Ok(()));
+    let _named = ready(&mut meetings, alloc)?;
+    assert_eq!(rt; lent(&meetings, alloc, 5)?.as_str(), "");
+    assert_eq!(rt; meetings.keep(1, 2), Ok(()));
+    assert_eq!(rt; ready(&mut meetings, alloc)?.as_str(), "5 ");
+    assert_eq!(rt; lent(&meetings, alloc, 5)?.as_str(), ANSWER);
+    // Behind the end all is lent at once.
+    assert_eq!(rt; meetings.came(5, &HELLO, 0), Ok(false));
+    assert_eq!(rt; meetings.end_keeping(1), Ok(()));
+    assert_eq!(rt; ready(&mut meetings, alloc)?.as_str(), "5 ");
     Ok(())
 }

@@ -1,6 +1,6 @@
 -- Who joins by a header at a door, and who is turned away.
 use Rattle.std.proofs.Common.{◌≡◌, ◌≢◌, ◌≤◌, ◌<◌, ℕ, Bool, true, false, inl, inr, Some, None, refl, sym, ap, ◌∙◌, subst, arith}
-use Rattle.std.specs.Prelude.{◌⊎◌, IfErr, Option, Ok, Err, Result, option_map}
+use Rattle.std.specs.Prelude.{◌⊎◌, IfErr, IfOk, Option, Ok, Err, Result, option_map}
 use Rattle.std.proofs.lemmas.Bool.Decides.{eqb_tells}
 use Rattle.std.proofs.lemmas.Option.{none-some}
 use Rattle.floor_room.specs.Room.{Room}
@@ -15,13 +15,19 @@ use Rattle.floor_doors.specs.Follows.{follows}
 use Rattle.floor_connections.specs.declared.departure.Departure.{Departure}
 use Rattle.floor_connections.specs.declared.place.Peer.{Peer}
 use Rattle.floor_connections.specs.declared.place.Place.{Place}
-use Rattle.floor_connections.specs.declared.place.Place.TheVariants.{Port}
+use Rattle.floor_connections.specs.declared.place.Place.TheVariants.{Control, Door, Health, Observe, Port}
+use Rattle.floor_connections.specs.declared.conferences.Conferences.{Conferences}
 use Rattle.floor_connections.specs.declared.refusal.Refusal.{Refusal}
+use Rattle.floor_connections.specs.declared.refusal.Refusal.TheVariants as refusal
+use Rattle.floor_connections.specs.declared.table.Listener.{Listener}
 use Rattle.floor_connections.specs.declared.table.Socket.{Socket}
 use Rattle.floor_connections.specs.declared.table.Socket.TheVariants as socket
 use Rattle.floor_connections.specs.declared.table.Table.{Table}
-use Rattle.floor_connections.specs.Table.{OthersStay, ended, is_at_door, is_member, peer_of, socket_at, turned}
-use Rattle.floor_turn.proofs.Handing.{never, port_fields}
+use Rattle.floor_connections.specs.Table.{OthersStay, client_of, ended, is_at_door, is_member, peer_of, socket_at, turned}
+use Rattle.floor_meetings.specs.declared.meetings.Meetings.{Meetings}
+use Rattle.floor_proxy.specs.declared.header.NamedBy.{NamedBy}
+use Rattle.floor_turn.specs.Entering.{IsDeclined}
+use Rattle.floor_turn.proofs.Handing.{never, not_control, not_observe, port_fields, some_listener}
 
 -- of what isn't there no room is found
 pub not_there : (o : Option Room) → ((r : Room) → o ≡ Some r → ⊥) → o ≡ None
@@ -104,3 +110,36 @@ at_port_refused (Err why) place c u p P is h = λ d v q other.
 pub no_port_refused : (r : Result ℕ Refusal) (place : Place) (P : Refusal → ℕ → ℕ → Type 0) → ((d v q : ℕ) → place ≡ Port d v q → ⊥) → IfErr r (λ why. (d v q : ℕ) → place ≡ Port d v q → P why d v)
 no_port_refused (Ok s) place P none = tt
 no_port_refused (Err why) place P none = λ d v q is. absurd (none d v q is)
+
+-- memory was refused for its socket, or it was declined as this user
+abbrev pub Declined : Conferences → Meetings → Meetings → Refusal → ℕ → ℕ → Type 0
+Declined cs old new why conference user = ((why ≡ refusal.Memory) × (new ≡ old)) ⊎ ((slot : ℕ) × IsDeclined slot conference user cs old new why)
+
+-- it came by a client's place
+abbrev pub IsClients : Place → Type 0
+IsClients place = (place ≡ Control) ⊎ (place ≡ Observe)
+
+-- nobody else did
+pub not_clients_port : (place : Place) (c u p : ℕ) → place ≡ Port c u p → IsClients place → ⊥
+not_clients_port place c u p is (inl e) = not_control c u p (sym e ∙ is)
+not_clients_port place c u p is (inr e) = not_observe c u p (sym e ∙ is)
+
+pub not_clients_door : (place : Place) (named_by : NamedBy) (p : ℕ) → place ≡ Door named_by p → IsClients place → ⊥
+not_clients_door place named_by p is (inl e) = cc
+not_clients_door place named_by p is (inr e) = cc
+
+pub not_clients_health : (place : Place) (p : ℕ) → place ≡ Health p → IsClients place → ⊥
+not_clients_health place p is (inl e) = cc
+not_clients_health place p is (inr e) = cc
+
+pub no_client : (r : Result ℕ Refusal) (t : Table) (place : Place) → (IsClients place → ⊥) → IfOk r (λ s. IsClients place → client_of (socket_at t s) ≡ Some place)
+no_client (Ok s) t place none = λ its. absurd (none its)
+no_client (Err why) t place none = tt
+
+pub client_there : (r : Result ℕ Refusal) (t : Table) (place : Place) → IfOk r (λ s. socket_at t s ≡ Some (socket.Client place)) → IfOk r (λ s. IsClients place → client_of (socket_at t s) ≡ Some place)
+client_there (Ok s) t place there = λ its. ap client_of there
+client_there (Err why) t place there = tt
+
+-- of the listener that was found is said what is said of the one that stands there
+pub of_listener : (P : Place → Type 0) (o : Option Listener) (known l : Listener) → o ≡ Some known → o ≡ Some l → P known.place → P l.place
+of_listener P o known l is at h = subst (λ (x : Listener). P x.place) (some_listener known l (sym is ∙ at)) h

@@ -84,7 +84,7 @@ no_port (Err e) place P none = tt
 no_port (Ok s) place P none = λ d v q is. absurd (none d v q is)
 
 -- the listener that was found is the one that stands there
-some_listener : (k l : Listener) → ◌≡◌ {A = Option Listener} (Some k) (Some l) → k ≡ l
+pub some_listener : (k l : Listener) → ◌≡◌ {A = Option Listener} (Some k) (Some l) → k ≡ l
 some_listener k l same = cc
 
 pub place_of : (o : Option Listener) (known l : Listener) (place : Place) → o ≡ Some known → o ≡ Some l → l.place ≡ place → known.place ≡ place

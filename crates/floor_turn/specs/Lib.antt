@@ -3,6 +3,8 @@ pub mod Course
 pub mod Due
 pub mod Moves
 pub mod Entering
+pub mod Clients
+pub mod Touched
 pub mod Over
 pub mod Runs
 pub mod Laws

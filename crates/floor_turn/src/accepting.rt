@@ -9,12 +9,12 @@ ghost use Rattle.floor_sockets.specs.Sockets.{Changed, life_at};
 ghost use Rattle.floor_proxy.specs.declared.header.NamedBy.{NamedBy as By};
 ghost use Rattle.floor_connections.specs.Asked.{accepts};
 ghost use Rattle.floor_connections.specs.Steps.{Steps};
-ghost use Rattle.floor_connections.specs.Table.{is_at_door, listener_of, socket_at};
-ghost use Rattle.floor_connections.specs.declared.place.Place.TheVariants.{Door, Port};
+ghost use Rattle.floor_connections.specs.Table.{client_of, is_at_door, listener_of, socket_at};
+ghost use Rattle.floor_connections.specs.declared.place.Place.TheVariants.{Control, Door, Observe, Port};
 ghost use Rattle.floor_connections.specs.declared.refusal.Refusal.TheVariants.{Memory, NotAsked};
 ghost use Rattle.floor_connections.specs.declared.table.Listener.{Listener as Where};
 ghost use Rattle.floor_connections.specs.declared.table.Stage.TheVariants as stages;
-ghost use Rattle.floor_turn.specs.Entering.{HasJoined, IsDeclined};
+ghost use Rattle.floor_turn.specs.Entering.{HasJoined, IsDeclined, IsTurnedDown, MayJoin};
 ghost use Rattle.floor_turn.specs.Moves.{Moves, nothing_taken};
 
 use crate::meeting::{is_full_for, phase_of, who_at};
@@ -81,12 +81,17 @@ impl Server {
         ensures asked { IfErr result (λ why. why ≡ NotAsked
             → (listener_of (socket_at self.old.connections.table listener) ≡ None)
             ⊎ (accepts (life_at self.old.connections.sockets listener) ≡ false)) }
+        ensures client { IfOk result (λ socket. (l : Where)
+            → listener_of (socket_at self.old.connections.table listener) ≡ Some l
+            → ((l.place ≡ Control) ⊎ (l.place ≡ Observe))
+            → client_of (socket_at self.new.connections.table socket) ≡ Some l.place) }
         ensures refused { IfErr result (λ why. (l : Where) (c u p : ℕ)
             → accepts (life_at self.old.connections.sockets listener) ≡ true
             → listener_of (socket_at self.old.connections.table listener) ≡ Some l
             → l.place ≡ Port c u p
-            → (why ≡ Memory) ⊎ ((socket : ℕ)
-            × IsDeclined socket c u self.old.meetings why)) }
+            → ((why ≡ Memory) × (self.new.meetings ≡ self.old.meetings)) ⊎ ((socket : ℕ)
+            × IsDeclined socket c u self.old.connections.conferences
+            self.old.meetings self.new.meetings why)) }
         ensures moves { Moves nothing_taken self.old.meetings self.new.meetings }
         ensures steps { Steps self.old.connections.sockets self.new.connections.sockets }
     {
@@ -140,8 +145,12 @@ impl Server {
             → peer.place ≡ Door named_by p
             → is_at_door (socket_at self.new.connections.table socket) ≡ true) }
         ensures asked { IfErr result (λ why. why ≢ NotAsked) }
+        ensures client { IfOk result (λ socket. ((peer.place ≡ Control) ⊎ (peer.place ≡ Observe))
+            → client_of (socket_at self.new.connections.table socket) ≡ Some peer.place) }
         ensures refused { IfErr result (λ why. (c u p : ℕ) → peer.place ≡ Port c u p
-            → (why ≡ Memory) ⊎ ((socket : ℕ) × IsDeclined socket c u self.old.meetings why)) }
+            → ((why ≡ Memory) × (self.new.meetings ≡ self.old.meetings)) ⊎ ((socket : ℕ)
+            × IsDeclined socket c u self.old.connections.conferences
+            self.old.meetings self.new.meetings why)) }
         ensures moves { Moves nothing_taken self.old.meetings self.new.meetings }
         ensures steps { Steps self.old.connections.sockets self.new.connections.sockets }
     {
@@ -171,8 +180,10 @@ impl Server {
             × (m.conference ≡ conference) × (m.user ≡ user)
             × IsNew self.new.meetings.hub m.number) }
         ensures asked { IfErr result (λ why. why ≢ NotAsked) }
-        ensures refused { IfErr result (λ why. (why ≡ Memory) ⊎ ((socket : ℕ)
-            × IsDeclined socket conference user self.old.meetings why)) }
+        ensures refused { IfErr result (λ why. ((why ≡ Memory)
+            × (self.new.meetings ≡ self.old.meetings)) ⊎ ((socket : ℕ)
+            × IsDeclined socket conference user self.old.connections.conferences
+            self.old.meetings self.new.meetings why)) }
         ensures moves { Moves nothing_taken self.old.meetings self.new.meetings }
         ensures steps { Steps self.old.connections.sockets self.new.connections.sockets }
     {
@@ -189,25 +200,21 @@ impl Server {
         }
     }
 
-    /// Who is at a socket joins a conference as this user.
+    /// Who is at a socket joins a conference as this user. Nobody leaves for who may not.
     pub(crate) fn join(&mut self, socket: usize, conference: u32, user: u16) -> Result<(), Refusal>
         ensures joined { OnOk result ((m : Known) × (member_at self.new.meetings socket ≡ Some m)
             × (m.conference ≡ conference) × (m.user ≡ user)
             × IsNew self.new.meetings.hub m.number) }
         ensures entered { OnOk result (HasJoined socket conference user
-            self.old.meetings self.new.meetings) }
+            self.old.connections.conferences self.old.meetings self.new.meetings) }
         ensures asked { IfErr result (λ why. why ≢ NotAsked) }
-        ensures refused { IfErr result (IsDeclined socket conference user self.old.meetings) }
+        ensures refused { IfErr result (IsDeclined socket conference user
+            self.old.connections.conferences self.old.meetings self.new.meetings) }
         ensures table { self.new.connections.table ≡ self.old.connections.table }
         ensures moves { Moves nothing_taken self.old.meetings self.new.meetings }
         ensures steps { Steps self.old.connections.sockets self.new.connections.sockets }
     {
-        if self.connections.conferences.is_banned(conference, user) {
-            return Err(Refusal::Removed);
-        }
-        if is_full_for(&self.meetings, conference, user) {
-            return Err(Refusal::AtMeeting(JoinRefusal::UserConnections));
-        }
+        self.check(socket, conference, user)?;
         self.touched = Some(conference);
         let now = self.connections.millis();
         let gone = self.meetings.make_room(self.alloc, conference, user, now);
@@ -226,6 +233,26 @@ impl Server {
                 see_to_broken(&mut self.connections, &self.meetings, conference);
                 Err(Refusal::AtMeeting(refusal))
             }
+        }
+    }
+
+    /// Whether it may.
+    fn check(&self, socket: usize, conference: u32, user: u16) -> Result<(), Refusal>
+        ensures may { OnOk result (MayJoin socket conference user
+            self.now.connections.conferences self.now.meetings) }
+        ensures asked { IfErr result (λ why. why ≢ NotAsked) }
+        ensures refused { IfErr result (IsTurnedDown socket conference user
+            self.now.connections.conferences self.now.meetings) }
+    {
+        if self.connections.conferences.is_banned(conference, user) {
+            return Err(Refusal::Removed);
+        }
+        if is_full_for(&self.meetings, conference, user) {
+            return Err(Refusal::AtMeeting(JoinRefusal::UserConnections));
+        }
+        match self.meetings.check(socket, conference, user) {
+            Ok(()) => Ok(()),
+            Err(refusal) => Err(Refusal::AtMeeting(refusal)),
         }
     }
 }

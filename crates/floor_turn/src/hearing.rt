@@ -59,7 +59,7 @@ impl Server {
             → socket_at self.old.connections.table socket ≡ Some (AtDoor peer n)
             → proxy n.named_by (n.held ++ bytes.now) ≡ Ok (Named c u len)
             → EntersOrNot socket c u (drop (len - length n.held) bytes.now)
-            self.old.meetings self.new
+            self.old.connections.conferences self.old.meetings self.new
             ⊎ (IsTurnedAway socket self.new.connections × (self.new.meetings ≡ self.old.meetings)) }
         ensures wrong { (peer : Guest) (n : Awaited) (why : Wrong)
             → reads (life_at self.old.connections.sockets socket) ≡ true
@@ -195,7 +195,8 @@ impl Server {
         ensures entered { (peer : Guest) (c u at : ℕ)
             → peer_of (socket_at self.old.connections.table socket) ≡ Some peer
             → verdict ≡ verdicts.Enter c u at
-            → EntersOrNot socket c u (drop at bytes.now) self.old.meetings self.new }
+            → EntersOrNot socket c u (drop at bytes.now)
+            self.old.connections.conferences self.old.meetings self.new }
         ensures let_go { (peer : Guest)
             → peer_of (socket_at self.old.connections.table socket) ≡ Some peer
             → verdict ≡ verdicts.LetGo
@@ -225,7 +226,8 @@ impl Server {
     fn enter(&mut self, socket: usize, conference: u32, user: u16, bytes: &[u8], at: usize)
         ensures entered { (peer : Guest)
             → peer_of (socket_at self.old.connections.table socket) ≡ Some peer
-            → EntersOrNot socket conference user (drop at bytes.now) self.old.meetings self.new }
+            → EntersOrNot socket conference user (drop at bytes.now)
+            self.old.connections.conferences self.old.meetings self.new }
         ensures moves { Moves nothing_taken self.old.meetings self.new.meetings }
         ensures steps { Steps self.old.connections.sockets self.new.connections.sockets }
     {

@@ -1,14 +1,17 @@
 //! What the turn asks of the meetings.
 
-ghost use Rattle.std.specs.Prelude.{◌≡◌, ◌≤◌, ◌<◌, List, None, Some, false, true};
+ghost use Rattle.std.specs.Prelude.{◌≡◌, ◌≤◌, ◌<◌, ℕ, List, None, Option, Some, false, nat_eq, true};
+ghost use Rattle.floor_hub.specs.Connections.{connection_at};
 ghost use Rattle.floor_room.specs.Room.{Room};
 ghost use Rattle.floor_hub.specs.Hub.{room_at};
 ghost use Rattle.floor_hub.specs.Members.{AreMembers};
 ghost use Rattle.floor_hub.specs.declared.attached.Live.{Live as Listed};
 ghost use Rattle.floor_meetings.specs.Joined.{is_of, member_with, of_user};
 ghost use Rattle.floor_meetings.specs.Meetings.{member_at};
+ghost use Rattle.floor_meetings.specs.declared.members.Member.{Member as Known};
 ghost use Rattle.floor_turn.specs.Entering.{IsFullFor, MayTry};
 ghost use Rattle.floor_turn.specs.Moves.{Moves, nothing_taken};
+ghost use Rattle.floor_turn.specs.Touched.{touched_of};
 
 use floor_connections::{Departure, Who};
 use floor_hub::Live;
@@ -19,6 +22,11 @@ use floor_room::Phase;
 /// in the conference by another one.
 pub(crate) fn part(meetings: &mut Meetings, slot: usize, is_lost: bool, now: u64) -> bool
     ensures free { member_at meetings.new slot ≡ None }
+    ensures gone { (m : Known) → member_at meetings.old slot ≡ Some m → result ≡ false
+        → connection_at meetings.new.hub.hub.connections m.number ≡ None }
+    ensures others { (k : ℕ) → nat_eq slot k ≡ false
+        → member_at meetings.new k ≡ member_at meetings.old k }
+    ensures stays { is_lost ≡ false → result ≡ false }
     ensures moves { Moves nothing_taken meetings.old meetings.new }
 {
     let Some(member) = meetings.get(slot) else {
@@ -155,7 +163,9 @@ fn is_of(meetings: &Meetings, number: ConnNo, user: u16) -> bool
 }
 
 /// The conference of the member in a slot; the other where there is none.
-pub(crate) fn touched_at(meetings: &Meetings, slot: usize, other: Option<u32>) -> Option<u32> {
+pub(crate) fn touched_at(meetings: &Meetings, slot: usize, other: Option<u32>) -> Option<u32>
+    ensures value { result ≡ touched_of (member_at meetings.now slot) other }
+{
     match meetings.get(slot) {
         Some(member) => Some(member.conference),
         None => other,

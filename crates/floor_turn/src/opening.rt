@@ -1,6 +1,6 @@
 //! Conferences are opened and closed, and the server stops.
 
-ghost use Rattle.std.specs.Prelude.{◌≡◌, All, IfErr, OnErr, OnOk, false, true, ℕ};
+ghost use Rattle.std.specs.Prelude.{◌≡◌, All, IfErr, OnErr, OnOk, Some, false, true, ℕ};
 ghost use Rattle.floor_hub.specs.Rooms.{Forgets, IsRemembered, OneRoom, Opens, admin_event, by_broken, refusal_in};
 ghost use Rattle.floor_hub.specs.declared.step.Step.TheVariants.{Admin, Open};
 ghost use Rattle.floor_loop.specs.Done.{AtMost, NoSteps};
@@ -104,6 +104,7 @@ impl Server {
             self.old.meetings.hub self.new.meetings.hub }
         ensures room { OneRoom by_broken (refusal_in result) (admin_event act) conference
             self.old.meetings.hub.hub self.new.meetings.hub.hub }
+        ensures touched { self.new.touched ≡ Some conference }
         ensures members { self.new.meetings.members ≡ self.old.meetings.members }
         ensures moves { Moves nothing_taken self.old.meetings self.new.meetings }
         ensures steps { Steps self.old.connections.sockets self.new.connections.sockets }
@@ -123,6 +124,7 @@ impl Server {
             self.old.meetings.hub self.new.meetings.hub }
         ensures room { OneRoom by_broken (refusal_in result) (admin_event acts.Close) conference
             self.old.meetings.hub.hub self.new.meetings.hub.hub }
+        ensures touched { self.new.touched ≡ Some conference }
         ensures members { self.new.meetings.members ≡ self.old.meetings.members }
         ensures moves { Moves nothing_taken self.old.meetings self.new.meetings }
         ensures steps { Steps self.old.connections.sockets self.new.connections.sockets }

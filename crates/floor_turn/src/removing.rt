@@ -1,6 +1,14 @@
 //! Members that are shown out.
 
-ghost use Rattle.std.specs.Prelude.{◌≡◌};
+ghost use Rattle.std.specs.Prelude.{◌≡◌, ◌&&◌, ℕ, None, OnErr, OnOk, Some, false, nat_eq, true};
+ghost use Rattle.floor_hub.specs.Connections.{connection_at};
+ghost use Rattle.floor_meetings.specs.Meetings.{member_at};
+ghost use Rattle.floor_meetings.specs.Members.{slot_of};
+ghost use Rattle.floor_meetings.specs.declared.members.Member.{Member as Known};
+ghost use Rattle.floor_sockets.specs.Sockets.{life_at};
+ghost use Rattle.floor_connections.specs.Asked.{is_ending};
+ghost use Rattle.floor_connections.specs.Conferences.{SameUsers, conference_at, is_removed};
+ghost use Rattle.floor_connections.specs.declared.conferences.Conference.{Conference as There};
 ghost use Rattle.floor_connections.specs.Steps.{Steps};
 ghost use Rattle.floor_turn.specs.Moves.{Moves, nothing_taken};
 
@@ -11,8 +19,14 @@ use floor_meetings::ConnNo;
 use std::alloc::AllocError;
 
 impl Server {
-    /// The member with this number leaves, whether it is away or has a socket, which is shut at once.
+    /// The member with this number leaves, whether it is away or has a socket, which is shut at once. No other leaves.
     pub fn remove(&mut self, number: ConnNo, now: u64)
+        ensures gone { connection_at self.new.meetings.hub.hub.connections number ≡ None }
+        ensures shut { (socket : ℕ) → slot_of self.old.meetings.members number ≡ Some socket
+            → (member_at self.new.meetings socket ≡ None)
+            × (is_ending (life_at self.new.connections.sockets socket) ≡ true) }
+        ensures others { (k : ℕ) → (slot_of self.old.meetings.members number ≡ Some k → ⊥)
+            → member_at self.new.meetings k ≡ member_at self.old.meetings k }
         ensures moves { Moves nothing_taken self.old.meetings self.new.meetings }
         ensures steps { Steps self.old.connections.sockets self.new.connections.sockets }
     {
@@ -26,6 +40,12 @@ impl Server {
 
     /// The member at a socket leaves, and its socket is shut at once.
     fn remove_at(&mut self, socket: usize)
+        ensures gone { (m : Known) → member_at self.old.meetings socket ≡ Some m
+            → connection_at self.new.meetings.hub.hub.connections m.number ≡ None }
+        ensures free { member_at self.new.meetings socket ≡ None }
+        ensures shut { is_ending (life_at self.new.connections.sockets socket) ≡ true }
+        ensures others { (k : ℕ) → nat_eq socket k ≡ false
+            → member_at self.new.meetings k ≡ member_at self.old.meetings k }
         ensures moves { Moves nothing_taken self.old.meetings self.new.meetings }
         ensures steps { Steps self.old.connections.sockets self.new.connections.sockets }
     {
@@ -37,6 +57,9 @@ impl Server {
 
     /// A member that is away leaves.
     fn remove_away(&mut self, number: ConnNo)
+        ensures gone { slot_of self.old.meetings.members number ≡ None
+            → connection_at self.new.meetings.hub.hub.connections number ≡ None }
+        ensures members { self.new.meetings.members ≡ self.old.meetings.members }
         ensures moves { Moves nothing_taken self.old.meetings self.new.meetings }
         ensures steps { Steps self.old.connections.sockets self.new.connections.sockets }
     {
@@ -46,9 +69,18 @@ impl Server {
     }
 
     /// Whoever comes as this user of a conference isn't let in, from now on: it is refused by `Removed`. Where memory is
-    /// refused nothing has changed.
+    /// refused, and where there is no such conference, nothing has changed.
     pub fn ban(&mut self, conference: u32, user: u16) -> Result<(), AllocError>
+        ensures took { OnOk result ((c : There)
+            → conference_at self.old.connections.conferences conference ≡ Some c
+            → is_removed self.new.connections.conferences conference user ≡ true) }
+        ensures others { (c u : ℕ) → (nat_eq conference c && nat_eq user u) ≡ false
+            → is_removed self.new.connections.conferences c u
+            ≡ is_removed self.old.connections.conferences c u }
+        ensures left { OnErr result (SameUsers self.old.connections.conferences
+            self.new.connections.conferences) }
         ensures meetings { self.new.meetings ≡ self.old.meetings }
+        ensures table { self.new.connections.table ≡ self.old.connections.table }
         ensures sockets { self.new.connections.sockets ≡ self.old.connections.sockets }
     {
         self.connections.conferences.ban(conference, user)
@@ -56,14 +88,21 @@ impl Server {
 
     /// Whoever comes as this user of a conference is let in again.
     pub fn admit(&mut self, conference: u32, user: u16)
+        ensures took { is_removed self.new.connections.conferences conference user ≡ false }
+        ensures others { (c u : ℕ) → (nat_eq conference c && nat_eq user u) ≡ false
+            → is_removed self.new.connections.conferences c u
+            ≡ is_removed self.old.connections.conferences c u }
         ensures meetings { self.new.meetings ≡ self.old.meetings }
+        ensures table { self.new.connections.table ≡ self.old.connections.table }
         ensures sockets { self.new.connections.sockets ≡ self.old.connections.sockets }
     {
         self.connections.conferences.admit(conference, user);
     }
 
     /// Whether whoever comes as this user of a conference isn't let in.
-    pub fn is_banned(&self, conference: u32, user: u16) -> bool {
+    pub fn is_banned(&self, conference: u32, user: u16) -> bool
+        ensures value { result ≡ is_removed self.now.connections.conferences conference user }
+    {
         self.connections.conferences.is_banned(conference, user)
     }
 }

@@ -32,6 +32,7 @@ impl Server {
             × (said ≡ answer_said r.ledger user message.now)) }
         ensures room { OneRoom by_broken (refusal_in result) (say_event user message.now)
             conference self.old.meetings.hub.hub self.new.meetings.hub.hub }
+        ensures touched { self.new.touched ≡ Some conference }
         ensures members { self.new.meetings.members ≡ self.old.meetings.members }
         ensures moves { Moves nothing_taken self.old.meetings self.new.meetings }
         ensures steps { Steps self.old.connections.sockets self.new.connections.sockets }

@@ -1,5 +1,6 @@
 //! What no clause says, as pages of calls and deeds.
 
+mod clients;
 mod ends;
 mod members;
 mod page;

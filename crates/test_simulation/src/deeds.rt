@@ -84,7 +84,7 @@ impl Run {
         }
         self.model.note_turn(match place {
             Place::Port { conference, .. } => conference as usize,
-            Place::Door { .. } | Place::Health { .. } => 0,
+            Place::Door { .. } | Place::Health { .. } | Place::Control | Place::Observe => 0,
         });
         Ok(())
     }
@@ -99,7 +99,7 @@ impl Run {
                 ..
             } => (Stage::Refused, self.model.comes(number, conference, user)),
             Place::Door { .. } => (Stage::AtDoor(self.model.told.saturating_add(HEADER)), None),
-            Place::Health { .. } => (Stage::Refused, None),
+            Place::Health { .. } | Place::Control | Place::Observe => (Stage::Refused, None),
         };
         match (self.server.accepted(listener, number as u16, now), refusal) {
             (Ok(slot), None) => self.put(slot, number, stage)?,

@@ -155,7 +155,7 @@ impl Drawing {
         self.peers += 1;
         self.is_at_door = match self.place {
             Place::Door { .. } => self.crowd == 0 && !self.one_in(8),
-            Place::Port { .. } | Place::Health { .. } => false,
+            Place::Port { .. } | Place::Health { .. } | Place::Control | Place::Observe => false,
         };
         of(peer, Does::Connect(self.place))
     }

@@ -173,7 +173,7 @@ impl Model {
         match place {
             _ if self.course == Course::Closing => true,
             Place::Port { conference, .. } => !self.is_open(conference),
-            Place::Door { .. } | Place::Health { .. } => false,
+            Place::Door { .. } | Place::Health { .. } | Place::Control | Place::Observe => false,
         }
     }
 

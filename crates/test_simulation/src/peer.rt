@@ -80,7 +80,7 @@ impl Peer {
                 binding.user = user;
             }
             Place::Door { named_by, .. } => binding.named_by = named_by,
-            Place::Health { .. } => {}
+            Place::Health { .. } | Place::Control | Place::Observe => {}
         }
         Peer {
             alloc,

@@ -39,7 +39,7 @@ impl Run {
             match place {
                 Place::Door { named_by, port } => server.door(named_by, port)?,
                 Place::Health { port } => server.health(port)?,
-                Place::Port { .. } => {}
+                Place::Port { .. } | Place::Control | Place::Observe => {}
             }
         }
         Ok(Run {
@@ -195,6 +195,7 @@ impl Run {
             Deed::Read(slot) => self.read(slot),
             Deed::Write(slot) => self.write(slot),
             Deed::Shut(slot) => self.shut(slot),
+            Deed::Serve(slot) => Err(Fault::of("a client is served, and none is there", slot)),
             Deed::Log(entry) => self.model.hear_log(entry),
             Deed::Turn => Ok(()),
             Deed::End(fault) => {

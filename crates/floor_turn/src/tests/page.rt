@@ -101,6 +101,38 @@ impl Paged {
                 let _forgot = self.server.forget(number(words.get(1)) as u32);
             }
             "stop" => self.server.stop(now),
+            _ => self.call_of_clients(words, socket)?,
+        }
+        Ok(())
+    }
+
+    /// The same of what control clients do and ask for. Of what is lent to one `more`, `bytes`, `held` and `ends` are said.
+    fn call_of_clients(&mut self, words: &[&str], socket: usize) -> Result<(), AllocError> {
+        let now = self.now();
+        let count = number(words.get(2)) as usize;
+        let conference = number(words.get(1)) as u32;
+        let user = number(words.get(2)) as u16;
+        let says = |word: &str| words.contains(&word);
+        match words.first().copied().unwrap_or("") {
+            "clients" => self.server.clients(Place::Control)?,
+            "observers" => self.server.clients(Place::Observe)?,
+            "client-came" => self.server.client_came(socket, count, says("more"), now),
+            "client-ended" => self.server.client_ended(socket, now),
+            "client-served" => self.server.client_served(socket, says("more")),
+            "client-took" => {
+                let lent = number(words.get(3)) as usize;
+                self.server.client_took(socket, count, lent, now);
+            }
+            "lend" => self
+                .server
+                .lend_client(socket, says("bytes"), says("held"), says("ends")),
+            "say" => {
+                let bytes = bytes_of(self.alloc, words.get(3..).unwrap_or(&[]))?;
+                let _said = self.server.say(conference, user, bytes.as_slice(), now);
+            }
+            "remove" => self.server.remove(number(words.get(1)), now),
+            "ban" => self.server.ban(conference, user)?,
+            "admit" => self.server.admit(conference, user),
             _ => {}
         }
         Ok(())

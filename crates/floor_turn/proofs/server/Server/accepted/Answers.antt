@@ -1,9 +1,11 @@
-use Rattle.std.proofs.Common.{◌≡◌, Some, refl, subst}
+use Rattle.std.proofs.Common.{◌≡◌, Some, refl, subst, ◌∙◌}
 use Rattle.floor_connections.specs.declared.place.Place.TheVariants.{Door, Port}
 use Rattle.floor_connections.specs.declared.table.Table.{Table}
-use Rattle.floor_connections.specs.Table.{listener_of, socket_at}
+use Rattle.floor_connections.specs.Table.{client_of, listener_of, socket_at}
+use Rattle.floor_connections.specs.declared.conferences.Conferences.{Conferences}
 use Rattle.floor_connections.proofs.Steps.{steps_same, steps_then}
 use Rattle.floor_turn.proofs.Handing.{place_of}
+use Rattle.floor_turn.proofs.Entering.{Declined, IsClients, of_listener}
 use Rattle.floor_turn.proofs.Moving.{moves_same}
 use Rattle.floor_turn.proofs.server.Server.accepted.Goals as goal
 
@@ -32,6 +34,14 @@ returns-in-Err-clause-steps c = steps_then c.args.self.now.connections.sockets c
     (steps_same c.come_in.new.self.connections.sockets c.tell.new.self.sockets c.tell.ensures.sockets)
 
 pub returns-in-Err-clause-refused : goal.returns-in-Err-clause-refused
-returns-in-Err-clause-refused c = λ l d u p asked at is. c.in-Err.ensures.refused d u p
+returns-in-Err-clause-refused c = λ l d u p asked at is.
+    subst (λ (cs : Conferences). Declined cs c.args.self.now.meetings c.come_in.new.self.meetings c.in-Err.refusal d u) (c.accept.ensures.conferences ∙ c.pass.ensures.conferences)
+    (c.in-Err.ensures.refused d u p
     (place_of (listener_of (socket_at c.args.self.now.connections.table c.args.listener)) c.in-Some.known l (Port d u p)
-    (subst (λ (t : Table). listener_of (socket_at t c.args.listener) ≡ Some c.in-Some.known) c.pass.ensures.table c.in-Some.ensures.found) at is)
+    (subst (λ (t : Table). listener_of (socket_at t c.args.listener) ≡ Some c.in-Some.known) c.pass.ensures.table c.in-Some.ensures.found) at is))
+
+pub returns-in-Ok-clause-client : goal.returns-in-Ok-clause-client
+returns-in-Ok-clause-client c = λ l at.
+    of_listener (λ place. IsClients place → client_of (socket_at c.come_in.new.self.connections.table c.in-Ok.socket) ≡ Some place)
+    (listener_of (socket_at c.args.self.now.connections.table c.args.listener)) c.in-Some.known l
+    (subst (λ (t : Table). listener_of (socket_at t c.args.listener) ≡ Some c.in-Some.known) c.pass.ensures.table c.in-Some.ensures.found) at c.in-Ok.ensures.client

@@ -24,7 +24,7 @@ returns-in-Wait-clause-steps c = steps_by (Reads c.args.socket (length c.args.by
 
 pub returns-in-Enter-clause-entered : goal.returns-in-Enter-clause-entered
 returns-in-Enter-clause-entered c = λ peer d u behind at is.
-    as_named (λ x y z. EntersOrNot c.args.socket x y (drop z c.args.bytes.now) c.args.self.now.meetings c.enter.new.self) c.in-Enter.conference c.in-Enter.user c.in-Enter.at d u behind (sym c.in-Enter.is ∙ is)
+    as_named (λ x y z. EntersOrNot c.args.socket x y (drop z c.args.bytes.now) c.args.self.now.connections.conferences c.args.self.now.meetings c.enter.new.self) c.in-Enter.conference c.in-Enter.user c.in-Enter.at d u behind (sym c.in-Enter.is ∙ is)
     (c.enter.ensures.entered peer at)
 
 pub returns-in-LetGo-clause-let_go : goal.returns-in-LetGo-clause-let_go

@@ -1,4 +1,4 @@
-use Rattle.std.proofs.Common.{refl, ◌≡◌, ◌∙◌, ◌++◌, ◌-◌, ap, inl, inr, length, sym, Some}
+use Rattle.std.proofs.Common.{refl, ◌≡◌, ◌∙◌, ◌++◌, ◌-◌, ap, drop, inl, inr, length, subst, sym, Some}
 use Rattle.floor_connections.proofs.Steps.{steps_then}
 use Rattle.floor_proxy.specs.Header.{proxy}
 use Rattle.floor_doors.specs.Follows.{follows}
@@ -9,6 +9,8 @@ use Rattle.floor_connections.specs.Asked.{reads}
 use Rattle.floor_connections.specs.Table.{is_at_door, peer_of, socket_at}
 use Rattle.floor_connections.specs.declared.table.Socket.TheVariants.{AtDoor}
 use Rattle.floor_connections.specs.declared.table.Table.{Table}
+use Rattle.floor_connections.specs.declared.conferences.Conferences.{Conferences}
+use Rattle.floor_turn.specs.Entering.{EntersOrNot}
 use Rattle.floor_turn.proofs.Handing.{never}
 use Rattle.floor_turn.proofs.Entering.{no_wait_enter, no_wait_refuse, told}
 use Rattle.floor_turn.proofs.Moving.{moves_same}
@@ -30,7 +32,7 @@ returns-then-is_at_door-clause-entered c = λ peer n d u len asked at header.
     let there : socket_at c.pass.new.self.table c.args.socket ≡ Some (AtDoor peer n) = ap (λ (t : Table). socket_at t c.args.socket) c.pass.ensures.table ∙ at in
     let said = told v held (proxy n.named_by (n.held ++ c.args.bytes.now)) (c.came_at_door-verdict.ensures.value peer n there) in
     elim said [
-      | inl e ↦ let named : v ≡ Enter d u (len - held) = e ∙ ap (follows held) header in inl (c.act_on.ensures.entered peer d u (len - held) (ap peer_of (c.came_at_door-verdict.ensures.left (no_wait_enter v d u (len - held) named) c.args.socket ∙ there)) named)
+      | inl e ↦ let named : v ≡ Enter d u (len - held) = e ∙ ap (follows held) header in inl (subst (λ (cs : Conferences). EntersOrNot c.args.socket d u (drop (len - held) c.args.bytes.now) cs c.args.self.now.meetings c.act_on.new.self) c.pass.ensures.conferences (c.act_on.ensures.entered peer d u (len - held) (ap peer_of (c.came_at_door-verdict.ensures.left (no_wait_enter v d u (len - held) named) c.args.socket ∙ there)) named))
       | inr e ↦ inr (c.act_on.ensures.refused peer Memory (ap peer_of (c.came_at_door-verdict.ensures.left (no_wait_refuse v Memory e) c.args.socket ∙ there)) e)
     ]
 

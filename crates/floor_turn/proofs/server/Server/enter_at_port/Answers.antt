@@ -1,5 +1,7 @@
-use Rattle.std.proofs.Common.{refl, inl, inr}
+use Rattle.std.proofs.Common.{refl, inl, inr, subst}
+use Rattle.floor_connections.specs.declared.conferences.Conferences.{Conferences}
 use Rattle.floor_connections.proofs.Steps.{steps_then}
+use Rattle.floor_turn.proofs.Entering.{Declined}
 use Rattle.floor_turn.proofs.Moving.{moves_same}
 use Rattle.floor_turn.proofs.server.Server.enter_at_port.Goals as goal
 
@@ -14,7 +16,8 @@ returns-in-Err-join-clause-steps c = steps_then c.args.self.now.connections.sock
     (steps_then c.args.self.now.connections.sockets c.open_member.new.self.sockets c.join.new.self.connections.sockets c.open_member.ensures.steps c.join.ensures.steps) c.take_back.ensures.steps
 
 pub returns-in-Err-clause-refused : goal.returns-in-Err-clause-refused
-returns-in-Err-clause-refused c = inl c.in-Err.ensures.refused
+returns-in-Err-clause-refused c = inl (c.in-Err.ensures.refused, refl)
 
 pub returns-in-Err-join-clause-refused : goal.returns-in-Err-join-clause-refused
-returns-in-Err-join-clause-refused c = inr (c.in-Ok.socket, c.in-Err-join.ensures.refused)
+returns-in-Err-join-clause-refused c =
+    subst (λ (cs : Conferences). Declined cs c.args.self.now.meetings c.join.new.self.meetings c.in-Err-join.refusal c.args.conference c.args.user) c.open_member.ensures.conferences (inr (c.in-Ok.socket, c.in-Err-join.ensures.refused))
