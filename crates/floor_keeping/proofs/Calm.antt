@@ -1,13 +1,13 @@
 -- Answers by which nothing comes to stand in a file.
 use Rattle.std.proofs.Common.{◌≡◌, ℕ, Bool, true, false, refl, sym, ◌∙◌}
-use Rattle.std.specs.Prelude.{not, if◌then◌else◌, Some, None}
+use Rattle.std.specs.Prelude.{not, ◌||◌, if◌then◌else◌, Option, Some, None}
 use Rattle.std.proofs.lemmas.Bool.{false≢true}
 use Rattle.std.proofs.lemmas.Option.{none-some}
 use Rattle.floor_keep.specs.declared.ending.Left.TheVariants as left
 use Rattle.floor_keep.specs.declared.kept.KeptFault.{KeptFault}
 use Rattle.floor_keep.specs.declared.kept.KeptFault.TheVariants as kept
 use Rattle.floor_keeping.specs.State as state
-use Rattle.floor_keeping.specs.State.{failed, given_up, is_append, is_begin, is_cut, is_done, is_empty, is_kept, is_rename, is_spoil, over}
+use Rattle.floor_keeping.specs.State.{failed, failing, given_up, is_append, is_begin, is_closing, is_cut, is_done, is_empty, is_kept, is_open, is_rename, is_spoil, over, unsynced}
 use Rattle.floor_keeping.specs.declared.policy.Outcome.{Outcome}
 use Rattle.floor_keeping.specs.declared.policy.Policy.{Policy}
 use Rattle.floor_keeping.specs.declared.state.Asked.{Asked}
@@ -20,19 +20,20 @@ use Rattle.floor_keeping.specs.declared.state.Front.{Front}
 use Rattle.floor_keeping.specs.declared.state.Front.TheVariants as front
 use Rattle.floor_keeping.specs.declared.state.State.{State}
 
--- An Append is out of a file that is kept.
-pub record IsAlive (s : State) : Type 0 where
-  pub dead : is_kept s.course ≡ false → is_append s.asked ≡ false
+-- What was put to it is to be appended, or is being so.
+abbrev pub lives : State → Bool
+lives s = is_kept s.course || is_append s.asked
 
--- Nothing comes to stand in the file, no Append is asked, and one that is out stays so while it is kept.
+-- Nothing comes to stand in the file, no Append is asked, and one that is out stays so while it lives.
 pub record Calm (s t : State) : Type 0 where
   pub written : t.written ≡ s.written
   pub sent : t.sent ≡ s.sent
   pub events : t.events ≡ s.events
   pub kept : t.kept ≡ s.kept
+  pub sync_at : t.sync_at ≡ s.sync_at
   pub synced : (m : ℕ) → t.synced ≡ Some m → s.synced ≡ Some m
-  pub alive : is_kept t.course ≡ true → (is_kept s.course ≡ true) × (is_append t.asked ≡ is_append s.asked)
-  pub dead : IsAlive s → IsAlive t
+  pub alive : lives t ≡ true → (lives s ≡ true) × (is_append t.asked ≡ is_append s.asked)
+  pub goes_on : is_kept t.course ≡ true → (is_kept s.course ≡ true) × (t.synced ≡ s.synced)
 
 pub same : (s : State) → Calm s s
 same s = record {
@@ -40,10 +41,27 @@ same s = record {
   sent = refl;
   events = refl;
   kept = refl;
+  sync_at = refl;
   synced = λ m e. e;
   alive = λ h. (h, refl);
-  dead = λ a. a;
+  goes_on = λ h. (h, refl);
 }
+
+pub or-left : (a b : Bool) → a ≡ true → (a || b) ≡ true
+or-left true b e = refl
+or-left false b e = absurd (false≢true e)
+
+pub or-right : (a b : Bool) → b ≡ true → (a || b) ≡ true
+or-right true b e = refl
+or-right false b e = e
+
+pub or-first : (a b : Bool) → b ≡ false → (a || b) ≡ true → a ≡ true
+or-first true b e h = refl
+or-first false b e h = absurd (false≢true (sym e ∙ h))
+
+pub or-second : (a b : Bool) → a ≡ false → (a || b) ≡ true → b ≡ true
+or-second true b e h = absurd (false≢true (sym e))
+or-second false b e h = h
 
 -- no answer is awaited any more
 idle : (s : State) (f : Front) (c : Course) → (is_kept c ≡ true → (is_kept s.course ≡ true) × (is_append s.asked ≡ false)) → Calm s (record s { asked = asked.Nothing; front = f; course = c })
@@ -52,9 +70,10 @@ idle s f c h = record {
   sent = refl;
   events = refl;
   kept = refl;
+  sync_at = refl;
   synced = λ m e. e;
-  alive = λ k. ((h k).0, sym (h k).1);
-  dead = λ a. record { dead = λ k. refl };
+  alive = λ k. let g = h (or-first (is_kept c) false refl k) in (or-left (is_kept s.course) (is_append s.asked) g.0, sym g.1);
+  goes_on = λ k. ((h k).0, refl);
 }
 
 ended : (s : State) (f : Front) (c : Course) → is_kept c ≡ false → Calm s (record s { asked = asked.Nothing; front = f; course = c })
@@ -63,19 +82,35 @@ ended s f c h = idle s f c (λ k. absurd (false≢true (sym h ∙ k)))
 calm_over : (e : End) (s : State) → Calm s (over e s)
 calm_over e s = ended s s.front (course.Over e) refl
 
-pub calm_failed : (p : Policy) (cause : KeptFault) (s : State) → Calm s (failed p cause s)
-calm_failed p cause s = by p.or_stop
+not_kept : (p : Policy) (cause : KeptFault) → is_kept (failing p cause) ≡ false
+not_kept p cause = by p.or_stop
   where
-    by : (b : Bool) → Calm s (if b then over (end.Unkept cause left.Resumes) s else record s { asked = asked.Nothing; course = course.Renaming cause })
-    by true = calm_over (end.Unkept cause left.Resumes) s
-    by false = ended s s.front (course.Renaming cause) refl
+    by : (b : Bool) → is_kept (if b then course.Over (end.Unkept cause left.Resumes) else course.Renaming cause) ≡ false
+    by true = refl
+    by false = refl
+
+pub calm_failed : (p : Policy) (cause : KeptFault) (s : State) → Calm s (failed p cause s)
+calm_failed p cause s = ended s s.front (failing p cause) (not_kept p cause)
+
+-- it is kept no more, and what is awaited is awaited still
+given : (p : Policy) (cause : KeptFault) (s : State) (o : Option ℕ) → is_kept s.course ≡ true → ((m : ℕ) → o ≡ Some m → s.synced ≡ Some m) → Calm s (record s { synced = o; course = failing p cause })
+given p cause s o was out = record {
+  written = refl;
+  sent = refl;
+  events = refl;
+  kept = refl;
+  sync_at = refl;
+  synced = out;
+  alive = λ k. (or-left (is_kept s.course) (is_append s.asked) was, refl);
+  goes_on = λ k. absurd (false≢true (sym (not_kept p cause) ∙ k));
+}
 
 pub calm_given_up : (p : Policy) (cause : KeptFault) (s : State) → Calm s (given_up p cause s)
-calm_given_up p cause s = by (is_kept s.course)
+calm_given_up p cause s = by (is_open s.course) refl
   where
-    by : (b : Bool) → Calm s (if b then failed p cause s else s)
-    by true = calm_failed p cause s
-    by false = same s
+    by : (b : Bool) → is_open s.course ≡ b → Calm s (if b then record s { course = failing p cause } else s)
+    by true e = given p cause s s.synced (or-left (is_open s.course) (is_closing s.course) e) (λ m h. h)
+    by false e = same s
 
 -- what isn't an Append
 apart : (f : Asked → Bool) → f asked.Append ≡ false → (q : Asked) → f q ≡ true → is_append q ≡ false
@@ -87,7 +122,7 @@ apart f h asked.Sync e = refl
 apart f h asked.Rename e = refl
 apart f h asked.Spoil e = refl
 apart f h asked.Empty e = refl
-apart f h asked.Tell e = refl
+apart f h asked.Report e = refl
 apart f h asked.End e = refl
 
 pub calm_begun : (o : Outcome) (s : State) → Calm s (state.begun o s)
@@ -176,16 +211,19 @@ calm_emptied o s = by (is_empty s.asked) refl
     by false e = same s
 
 -- a Sync failed
-pub calm_unsynced : (p : Policy) (s : State) → Calm s (given_up p kept.CannotSync (record s { synced = None }))
-calm_unsynced p s = by (given_up p kept.CannotSync (record s { synced = None })) (calm_given_up p kept.CannotSync (record s { synced = None }))
+pub calm_unsynced : (p : Policy) (s : State) → Calm s (unsynced p (record s { synced = None }))
+calm_unsynced p s = by (is_kept s.course) refl
   where
-    by : (t : State) → Calm (record s { synced = None }) t → Calm s t
-    by t c = record {
-      written = c.written;
-      sent = c.sent;
-      events = c.events;
-      kept = c.kept;
-      synced = λ m e. absurd (none-some m (c.synced m e));
-      alive = c.alive;
-      dead = λ a. c.dead (record { dead = a.dead });
+    by : (b : Bool) → is_kept s.course ≡ b
+        → Calm s (if b then record s { synced = None; course = failing p kept.CannotSync } else record s { synced = None })
+    by true e = given p kept.CannotSync s None e (λ m h. absurd (none-some m h))
+    by false e = record {
+      written = refl;
+      sent = refl;
+      events = refl;
+      kept = refl;
+      sync_at = refl;
+      synced = λ m h. absurd (none-some m h);
+      alive = λ k. (k, refl);
+      goes_on = λ k. absurd (false≢true (sym e ∙ k));
     }

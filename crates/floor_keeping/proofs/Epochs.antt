@@ -4,15 +4,15 @@ use Rattle.std.specs.Prelude.{◌⊎◌, ◌≢◌, ◌||◌, if◌then◌else�
 use Rattle.std.proofs.lemmas.Bool.{false≢true}
 use Rattle.std.proofs.lemmas.Bool.Decides.{eqb_tells}
 use Rattle.floor_keep.specs.declared.fault.KeepFault.TheVariants as fault
-use Rattle.floor_keeping.specs.Calls.{Call, Calls, Begin, Resume, Put, Close, Told, Read, Next, Other, DoesEpoch, have_read}
+use Rattle.floor_keeping.specs.Calls.{Call, Calls, Begin, Resume, Put, Close, Answered, Read, Next, Other, DoesEpoch, have_read}
 use Rattle.floor_keeping.specs.Deeds.{reads_epoch}
-use Rattle.floor_keeping.specs.Epochs.{asked, asked_at, first_of, is_ours, later, passed_at, read_at, rested_at, told}
-use Rattle.floor_keeping.specs.Files.{epoch_at, time_at}
+use Rattle.floor_keeping.specs.Epochs.{asked, asked_at, compared, first_of, is_ours, passed_at, read_at, rested_at}
+use Rattle.floor_keeping.specs.State.{later}
+use Rattle.floor_keeping.specs.Files.{Files, epoch_at, time_at}
 use Rattle.floor_keeping.specs.Laws.{NoTurnGoesBeforeItsEpoch}
 use Rattle.floor_keeping.specs.declared.epoch.Epoch.{Epoch}
 use Rattle.floor_keeping.specs.declared.epoch.Reading.{Reading}
 use Rattle.floor_keeping.specs.declared.epoch.Reading.TheVariants as reading
-use Rattle.floor_keeping.specs.declared.files.Files.{Files}
 
 -- A number was read in this turn, and is the one that it has to be.
 abbrev HasRead : List Call → Epoch → Type 0
@@ -72,17 +72,17 @@ or-left true b e = refl
 or-left false b e = absurd (false≢true e)
 
 -- the answer that was awaited
-told-read : (ours : Option ℕ) (number : ℕ) (earlier : List Call) → is_ours (told ours number) ≡ true → HasRead (Read (Some number) ∷ earlier) (record { ours = first_of ours number; reading = told ours number })
-told-read None number earlier e = (number, refl, or-left (nat_eq number number) (have_read number earlier) (eq-self number))
-told-read (Some n) number earlier e = by (nat_eq number n) refl e
+compared-read : (ours : Option ℕ) (number : ℕ) (earlier : List Call) → is_ours (compared ours number) ≡ true → HasRead (Read (Some number) ∷ earlier) (record { ours = first_of ours number; reading = compared ours number })
+compared-read None number earlier e = (number, refl, or-left (nat_eq number number) (have_read number earlier) (eq-self number))
+compared-read (Some n) number earlier e = by (nat_eq number n) refl e
   where
-    by : (b : Bool) → nat_eq number n ≡ b → is_ours (if b then reading.Ours else reading.Over fault.Lost) ≡ true → HasRead (Read (Some number) ∷ earlier) (record { ours = Some n; reading = told (Some n) number })
+    by : (b : Bool) → nat_eq number n ≡ b → is_ours (if b then reading.Ours else reading.Over fault.Lost) ≡ true → HasRead (Read (Some number) ∷ earlier) (record { ours = Some n; reading = compared (Some n) number })
     by true is h = (n, refl, or-left (nat_eq number n) (have_read n earlier) is)
     by false is h = absurd (false≢true h)
 
 read-some : (t number : ℕ) (r : Reading) (e : Epoch) (earlier : List Call) → e.reading ≡ r → is_ours (read_at t (Some number) r e).reading ≡ true → (is_ours r ≡ true → HasRead earlier e) → HasRead (Read (Some number) ∷ earlier) (read_at t (Some number) r e)
 read-some t number reading.Unread e earlier at h before = absurd (false≢true (sym (ap (λ (x : Reading). is_ours x) at) ∙ h))
-read-some t number (reading.Asked since) e earlier at h before = told-read e.ours number earlier h
+read-some t number (reading.Asked since) e earlier at h before = compared-read e.ours number earlier h
 read-some t number reading.Ours e earlier at h before = read-more number earlier e (before refl)
 read-some t number (reading.Waits since again) e earlier at h before = absurd (false≢true (sym (ap (λ (x : Reading). is_ours x) at) ∙ h))
 read-some t number (reading.Over cause) e earlier at h before = absurd (false≢true (sym (ap (λ (x : Reading). is_ours x) at) ∙ h))
@@ -100,13 +100,13 @@ does (Begin c head) earlier old new d before h = (let x = before (ap (λ (e : Ep
 does (Resume standing) earlier old new d before h = (let x = before (ap (λ (e : Epoch). is_ours e.reading) (sym d) ∙ h) in (x.0, ap (λ (e : Epoch). e.ours) d ∙ x.1, x.2))
 does (Put c turn) earlier old new d before h = (let x = before (ap (λ (e : Epoch). is_ours e.reading) (sym d) ∙ h) in (x.0, ap (λ (e : Epoch). e.ours) d ∙ x.1, x.2))
 does (Close c journal) earlier old new d before h = (let x = before (ap (λ (e : Epoch). is_ours e.reading) (sym d) ∙ h) in (x.0, ap (λ (e : Epoch). e.ours) d ∙ x.1, x.2))
-does (Told c ch) earlier old new d before h = (let x = before (ap (λ (e : Epoch). is_ours e.reading) (sym d) ∙ h) in (x.0, ap (λ (e : Epoch). e.ours) d ∙ x.1, x.2))
+does (Answered c ch) earlier old new d before h = (let x = before (ap (λ (e : Epoch). is_ours e.reading) (sym d) ∙ h) in (x.0, ap (λ (e : Epoch). e.ours) d ∙ x.1, x.2))
 does (Read (Some number)) earlier old new d before h =
     subst (λ (e : Epoch). HasRead (Read (Some number) ∷ earlier) e) (sym d)
-    (read-some old.time number old.epoch.reading old.epoch earlier refl (ap (λ (e : Epoch). is_ours e.reading) (sym d) ∙ h) before)
+    (read-some old.table.time number old.epoch.reading old.epoch earlier refl (ap (λ (e : Epoch). is_ours e.reading) (sym d) ∙ h) before)
 does (Read None) earlier old new d before h =
     subst (λ (e : Epoch). HasRead (Read None ∷ earlier) e) (sym d)
-    (read-none old.time old.epoch.reading old.epoch earlier refl (ap (λ (e : Epoch). is_ours e.reading) (sym d) ∙ h) before)
+    (read-none old.table.time old.epoch.reading old.epoch earlier refl (ap (λ (e : Epoch). is_ours e.reading) (sym d) ∙ h) before)
 does (Next now (Some x)) earlier old new d before h =
     let t = time_at now old in
     let e = epoch_at now old in

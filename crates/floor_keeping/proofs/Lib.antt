@@ -4,3 +4,5 @@ pub mod Fronts
 pub mod Readings
 pub mod Owned
 pub mod Epochs
+pub mod Listing
+pub mod Disk

@@ -7,9 +7,9 @@ use Rattle.std.proofs.lemmas.Bool.Decides.{eqb_tells}
 use Rattle.std.proofs.lemmas.Option.{none-some}
 use Rattle.floor_machine.specs.declared.event.Event.{Event}
 use Rattle.floor_kept.specs.Laws.{Turn}
-use Rattle.floor_keeping.specs.Calls.{Call, Calls, Begin, Resume, Put, Close, Told, Read, Next, Other, DoesFiles, begin_it, begins_it, of_conference, of_it, step_of, steps_of}
+use Rattle.floor_keeping.specs.Calls.{Call, Calls, Begin, Resume, Put, Close, Answered, Read, Next, Other, DoesFiles, begin_it, begins_it, of_conference, of_it, step_of, steps_of}
 use Rattle.floor_keeping.specs.Deeds.{conference_of, deed_of, end_of}
-use Rattle.floor_keeping.specs.Files.{file_at, until_at}
+use Rattle.floor_keeping.specs.Files.{Files, file_at, until_at}
 use Rattle.floor_keeping.specs.Kept.{KeptFile, ask, asked_of, changed, close, put}
 use Rattle.floor_keeping.specs.Laws.{EachFileIsItsOwn}
 use Rattle.floor_keeping.specs.Runs.{Past, Step, begun, last_turn, putting, step, steps}
@@ -17,7 +17,6 @@ use Rattle.floor_keeping.specs.Runs as one
 use Rattle.floor_keeping.specs.State.{is_open}
 use Rattle.floor_keeping.specs.Table.{Asks, AsksOf, SameFiles, SameOthers, Took, left_by}
 use Rattle.floor_keeping.specs.declared.deed.Deed.{Deed}
-use Rattle.floor_keeping.specs.declared.files.Files.{Files}
 use Rattle.floor_keeping.specs.declared.kept.Change.{Change}
 use Rattle.floor_keeping.specs.declared.policy.Policy.{Policy}
 use Rattle.floor_keeping.specs.declared.state.Asked.{Asked}
@@ -94,18 +93,18 @@ close-becomes p k c journal old new g took is = of_other p k c (one.Close journa
 })
 
 -- what was answered
-told-file : (p : Policy) (ch : Change) (o : Option KeptFile) (g : KeptFile) → option_map (changed p ch) o ≡ Some g → Becomes p (one.Told ch ∷ []) o g
-told-file p ch None g e = absurd (none-some g e)
-told-file p ch (Some f) g e = record {
+answered-file : (p : Policy) (now : ℕ) (ch : Change) (o : Option KeptFile) (g : KeptFile) → option_map (changed p now ch) o ≡ Some g → Becomes p (one.Answered now ch ∷ []) o g
+answered-file p now ch None g e = absurd (none-some g e)
+answered-file p now ch (Some f) g e = record {
   file = f;
   there = refl;
-  are = λ past h. ap (λ (x : KeptFile). changed p ch x) h ∙ some-same (changed p ch f) g e;
+  are = λ past h. ap (λ (x : KeptFile). changed p now ch x) h ∙ some-same (changed p now ch f) g e;
 }
 
-told-becomes : (p : Policy) (k c : ℕ) (ch : Change) (old new : ℕ → Option KeptFile) (g : KeptFile) → new k ≡ option_map (changed p ch) (old k) → SameOthers k old new → new c ≡ Some g
-    → Becomes p (of_it (nat_eq k c) (one.Told ch)) (old c) g
-told-becomes p k c ch old new g here others is = of_other p k c (one.Told ch) old new g others is
-    (λ e same. told-file p ch (old c) g (sym (subst (λ (i : ℕ). new i ≡ option_map (changed p ch) (old i)) same here) ∙ is))
+answered-becomes : (p : Policy) (now k c : ℕ) (ch : Change) (old new : ℕ → Option KeptFile) (g : KeptFile) → new k ≡ option_map (changed p now ch) (old k) → SameOthers k old new → new c ≡ Some g
+    → Becomes p (of_it (nat_eq k c) (one.Answered now ch)) (old c) g
+answered-becomes p now k c ch old new g here others is = of_other p k c (one.Answered now ch) old new g others is
+    (λ e same. answered-file p now ch (old c) g (sym (subst (λ (i : ℕ). new i ≡ option_map (changed p now ch) (old i)) same here) ∙ is))
 
 -- what was asked
 of-end : (k : ℕ) (c : Course) (d : Deed) → end_of k c ≡ Some d → conference_of d ≡ Some k
@@ -125,7 +124,7 @@ of-deed k asked.Sync s d e = sym (ap (λ (y : Deed). conference_of y) (deed-same
 of-deed k asked.Rename s d e = sym (ap (λ (y : Deed). conference_of y) (deed-same _ d e))
 of-deed k asked.Spoil s d e = sym (ap (λ (y : Deed). conference_of y) (deed-same _ d e))
 of-deed k asked.Empty s d e = sym (ap (λ (y : Deed). conference_of y) (deed-same _ d e))
-of-deed k asked.Tell s d e = sym (ap (λ (y : Deed). conference_of y) (deed-same _ d e))
+of-deed k asked.Report s d e = sym (ap (λ (y : Deed). conference_of y) (deed-same _ d e))
 of-deed k asked.End s d e = of-end k s.course d e
 
 left-asked : (a : Asked) (f g : KeptFile) → left_by a f ≡ Some g → ask a f ≡ g
@@ -137,7 +136,7 @@ left-asked asked.Sync f g e = some-same (ask asked.Sync f) g e
 left-asked asked.Rename f g e = some-same (ask asked.Rename f) g e
 left-asked asked.Spoil f g e = some-same (ask asked.Spoil f) g e
 left-asked asked.Empty f g e = some-same (ask asked.Empty f) g e
-left-asked asked.Tell f g e = some-same (ask asked.Tell f) g e
+left-asked asked.Report f g e = some-same (ask asked.Report f) g e
 left-asked asked.End f g e = absurd (none-some g e)
 
 asked-becomes : (p : Policy) (c now k : ℕ) (d : Deed) (old new : ℕ → Option KeptFile) (g : KeptFile) → AsksOf p now old new k d → new c ≡ Some g → Becomes p (of_it (nat_eq k c) (one.Next now)) (old c) g
@@ -169,14 +168,14 @@ becomes p c (Begin k head) old new g does not_it is = other-file p k c (file_at 
 becomes p c (Resume standing) old new g does not_it is = other-file p standing.conference c (file_at old) (file_at new) g does.1 not_it is
 becomes p c (Put k turn) old new g does not_it is = put-becomes p k c turn (file_at old) (file_at new) g does is
 becomes p c (Close k journal) old new g does not_it is = close-becomes p k c journal (file_at old) (file_at new) g does is
-becomes p c (Told k ch) old new g does not_it is = told-becomes p k c ch (file_at old) (file_at new) g does.0 does.1 is
+becomes p c (Answered k ch) old new g does not_it is = answered-becomes p old.table.time k c ch (file_at old) (file_at new) g does.0 does.1 is
 becomes p c (Read number) old new g does not_it is = stays p (file_at old c) (file_at new c) g (does c) is
 becomes p c (Next now (Some d)) old new g does not_it is = next-becomes p c (until_at now old) d (file_at old) (file_at new) g does.0 does.1 is
-becomes p c (Next now None) old new g does not_it is = stays p (file_at old c) (file_at new c) g (does c) is
+becomes p c (Next now None) old new g does not_it is = stays p (file_at old c) (file_at new c) g (does.0 c) is
 becomes p c Other old new g does not_it is = stays p (file_at old c) (file_at new c) g (does c) is
 
-same-policy : (calls : List Call) (first last : Files) → Calls calls first last → last.policy ≡ first.policy
-same-policy [] first last run = ap (λ (f : Files). f.policy) run
+pub same-policy : (calls : List Call) (first last : Files) → Calls calls first last → last.table.policy ≡ first.table.policy
+same-policy [] first last run = ap (λ (f : Files). f.table.policy) run
 same-policy (call ∷ earlier) first last run = run.2.0 ∙ same-policy earlier first run.0 run.1
 
 or-false : (a b : Bool) → (a || b) ≡ false → (a ≡ false) × (b ≡ false)
@@ -187,8 +186,8 @@ pub law : EachFileIsItsOwn
 law c f g [] first last run is not_it there = sym (some-same f g (sym is ∙ ap (λ (x : Files). file_at x c) (sym run) ∙ there))
 law c f g (call ∷ earlier) first last run is not_it there =
     let apart = or-false (begins_it c call) (begin_it c earlier) not_it in
-    let does : DoesFiles first.policy call run.0 last = subst (λ (p : Policy). DoesFiles p call run.0 last) (same-policy earlier first run.0 run.1) run.2.1 in
-    let b = becomes first.policy c call run.0 last g does apart.0 there in
+    let does : DoesFiles first.table.policy call run.0 last = subst (λ (p : Policy). DoesFiles p call run.0 last) (same-policy earlier first run.0 run.1) run.2.1 in
+    let b = becomes first.table.policy c call run.0 last g does apart.0 there in
     let before = law c f b.file earlier first run.0 run.1 is apart.1 b.there in
-    sym (ap (λ (x : Past). x.file) (steps-both first.policy (steps_of c earlier first run.0 run.1) (step_of c run.0 call) (begun f))
-    ∙ b.are (steps first.policy (steps_of c earlier first run.0 run.1) (begun f)) (sym before))
+    sym (ap (λ (x : Past). x.file) (steps-both first.table.policy (steps_of c earlier first run.0 run.1) (step_of c run.0 call) (begun f))
+    ∙ b.are (steps first.table.policy (steps_of c earlier first run.0 run.1) (begun f)) (sym before))

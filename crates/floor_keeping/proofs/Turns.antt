@@ -5,7 +5,7 @@ use Rattle.floor_kept.specs.Laws.{Turn, turns_lines}
 use Rattle.floor_kept.specs.Writing.{turn_lines}
 use Rattle.floor_keeping.specs.Laws.{IsOfTurns, events_behind}
 
-lines_both : (n : ℕ) (xs ys : List Turn) → turns_lines n (xs ++ ys) ≡ turns_lines n xs ++ turns_lines (events_behind n xs) ys
+pub lines_both : (n : ℕ) (xs ys : List Turn) → turns_lines n (xs ++ ys) ≡ turns_lines n xs ++ turns_lines (events_behind n xs) ys
 lines_both n [] ys = refl
 lines_both n (t ∷ ts) ys =
     ap (λ (l : List ℕ). turn_lines n t.journal t.notes ++ l) (lines_both (length t.journal) ts ys)

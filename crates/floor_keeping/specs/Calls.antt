@@ -6,24 +6,23 @@ use Rattle.floor_keep.specs.declared.found.Standing.{Standing}
 use Rattle.floor_kept.specs.Laws.{Turn}
 use Rattle.floor_keeping.specs.Deeds.{conference_of}
 use Rattle.floor_keeping.specs.Epochs as epoch
-use Rattle.floor_keeping.specs.Files.{epoch_at, epoch_behind, file_at, time_at, until_at}
+use Rattle.floor_keeping.specs.Files.{Files, IsDone, epoch_at, epoch_behind, file_at, passed, time_at, until_at}
 use Rattle.floor_keeping.specs.Kept.{begins, changed, close, put, resumes}
 use Rattle.floor_keeping.specs.Runs.{Step}
 use Rattle.floor_keeping.specs.Runs as one
 use Rattle.floor_keeping.specs.Table.{Asks, SameFiles, SameOthers, Took}
 use Rattle.floor_keeping.specs.declared.deed.Deed.{Deed}
-use Rattle.floor_keeping.specs.declared.files.Files.{Files}
 use Rattle.floor_keeping.specs.declared.kept.Change.{Change}
 use Rattle.floor_keeping.specs.declared.policy.Policy.{Policy}
 
--- a call that may change something: those that were taken, with what they were given, and what `next` gave; `Told` is an answer of a file's, or that it can't be kept;
+-- a call that may change something: those that were taken, with what they were given, and what `next` gave; `Answered` is an answer of a file's, or that it can't be kept;
 -- `Other` is any other, and any that was refused
 pub data Call : Type 0 where
   Begin : (conference : ℕ) → List ℕ → Call
   Resume : Standing → Call
   Put : (conference : ℕ) → Turn → Call
   Close : (conference : ℕ) → List Event → Call
-  Told : (conference : ℕ) → Change → Call
+  Answered : (conference : ℕ) → Change → Call
   Read : Option ℕ → Call
   Next : (now : ℕ) → Option Deed → Call
   Other : Call
@@ -34,11 +33,11 @@ DoesFiles p (Begin c head) old new = (file_at new c ≡ Some (begins head)) × S
 DoesFiles p (Resume standing) old new = (file_at new standing.conference ≡ Some (resumes standing)) × SameOthers standing.conference (file_at old) (file_at new)
 DoesFiles p (Put c turn) old new = Took (put turn.journal turn.notes) (length turn.journal) (file_at old) (file_at new) c
 DoesFiles p (Close c journal) old new = Took (close journal) (length journal) (file_at old) (file_at new) c
-DoesFiles p (Told c change) old new = (file_at new c ≡ option_map (changed p change) (file_at old c)) × SameOthers c (file_at old) (file_at new)
+DoesFiles p (Answered c change) old new = (file_at new c ≡ option_map (changed p old.table.time change) (file_at old c)) × SameOthers c (file_at old) (file_at new)
 DoesFiles p (Read number) old new = SameFiles (file_at old) (file_at new)
 DoesFiles p (Next now (Some d)) old new =
     (is_some (conference_of d) ≡ true → Asks p (until_at now old) (file_at old) (file_at new) d) × (conference_of d ≡ None → SameFiles (file_at old) (file_at new))
-DoesFiles p (Next now None) old new = SameFiles (file_at old) (file_at new)
+DoesFiles p (Next now None) old new = SameFiles (file_at old) (file_at new) × (epoch.is_over (epoch_at now old).reading ≡ false → IsDone (passed now old))
 DoesFiles p Other old new = SameFiles (file_at old) (file_at new)
 
 -- what it says of the epoch
@@ -47,14 +46,14 @@ DoesEpoch (Begin c head) old new = new.epoch ≡ old.epoch
 DoesEpoch (Resume standing) old new = new.epoch ≡ old.epoch
 DoesEpoch (Put c turn) old new = new.epoch ≡ old.epoch
 DoesEpoch (Close c journal) old new = new.epoch ≡ old.epoch
-DoesEpoch (Told c change) old new = new.epoch ≡ old.epoch
-DoesEpoch (Read number) old new = new.epoch ≡ epoch.read old.time number old.epoch
+DoesEpoch (Answered c change) old new = new.epoch ≡ old.epoch
+DoesEpoch (Read number) old new = new.epoch ≡ epoch.read old.table.time number old.epoch
 DoesEpoch (Next now (Some d)) old new = new.epoch ≡ epoch_behind d (time_at now old) (epoch_at now old)
 DoesEpoch (Next now None) old new = new.epoch ≡ epoch.rested (epoch_at now old)
 DoesEpoch Other old new = (new.epoch.ours ≡ old.epoch.ours) × (epoch.is_ours new.epoch.reading ≡ true → epoch.is_ours old.epoch.reading ≡ true)
 
 abbrev pub Does : Call → Files → Files → Type 0
-Does call old new = (new.policy ≡ old.policy) × DoesFiles old.policy call old new × DoesEpoch call old new
+Does call old new = (new.table.policy ≡ old.table.policy) × DoesFiles old.table.policy call old new × DoesEpoch call old new
 
 -- these calls, the last of them in front, led from the first value to the last
 abbrev pub Calls : List Call → Files → Files → Type 0
@@ -80,7 +79,7 @@ step_of c old (Begin k head) = []
 step_of c old (Resume standing) = []
 step_of c old (Put k turn) = of_it (nat_eq k c) (one.Put turn)
 step_of c old (Close k journal) = of_it (nat_eq k c) (one.Close journal)
-step_of c old (Told k change) = of_it (nat_eq k c) (one.Told change)
+step_of c old (Answered k change) = of_it (nat_eq k c) (one.Answered old.table.time change)
 step_of c old (Read number) = []
 step_of c old (Next now deed) = of_deed c (until_at now old) deed
 step_of c old Other = []
@@ -96,7 +95,7 @@ begins_it c (Begin k head) = nat_eq k c
 begins_it c (Resume standing) = nat_eq standing.conference c
 begins_it c (Put k turn) = false
 begins_it c (Close k journal) = false
-begins_it c (Told k change) = false
+begins_it c (Answered k change) = false
 begins_it c (Read number) = false
 begins_it c (Next now deed) = false
 begins_it c Other = false
@@ -113,7 +112,7 @@ have_read n (Begin c head ∷ earlier) = have_read n earlier
 have_read n (Resume standing ∷ earlier) = have_read n earlier
 have_read n (Put c turn ∷ earlier) = have_read n earlier
 have_read n (Close c journal ∷ earlier) = have_read n earlier
-have_read n (Told c change ∷ earlier) = have_read n earlier
+have_read n (Answered c change ∷ earlier) = have_read n earlier
 have_read n (Read None ∷ earlier) = have_read n earlier
 have_read n (Read (Some number) ∷ earlier) = nat_eq number n || have_read n earlier
 have_read n (Next now None ∷ earlier) = false

@@ -45,7 +45,7 @@ deed_of conference asked.Sync s = Some (deed.Sync conference)
 deed_of conference asked.Rename s = Some (deed.Rename conference (ending_of s.course))
 deed_of conference asked.Spoil s = Some (deed.Spoil conference)
 deed_of conference asked.Empty s = Some (deed.Empty conference)
-deed_of conference asked.Tell s = Some (deed.Kept conference)
+deed_of conference asked.Report s = Some (deed.Kept conference)
 deed_of conference asked.End s = end_of conference s.course
 
 -- the conference whose file the deed is of

@@ -1,14 +1,11 @@
 -- The epoch of the folder, as it is read in each turn: the number by which one server is fenced off from a folder that another one has now.
-use Rattle.std.specs.Prelude.{ℕ, ◌+◌, min, nat_eq, nat_le, Bool, true, false, if◌then◌else◌, Option, Some, None}
+use Rattle.std.specs.Prelude.{ℕ, min, nat_eq, nat_le, ◌||◌, Bool, true, false, if◌then◌else◌, Option, Some, None}
 use Rattle.floor_keep.specs.declared.fault.KeepFault.{KeepFault}
 use Rattle.floor_keep.specs.declared.fault.KeepFault.TheVariants as fault
+use Rattle.floor_keeping.specs.State.{later}
 use Rattle.floor_keeping.specs.declared.epoch.Epoch.{Epoch}
 use Rattle.floor_keeping.specs.declared.epoch.Reading.{Reading}
 use Rattle.floor_keeping.specs.declared.epoch.Reading.TheVariants as reading
-
--- a time so much later: the last there is, where there is none
-abbrev pub later : ℕ → ℕ → ℕ
-later time micros = min (time + micros) 18446744073709551615
 
 -- it was read in this turn, and is ours
 abbrev pub is_ours : Reading → Bool
@@ -18,7 +15,7 @@ is_ours reading.Ours = true
 is_ours (reading.Waits since again) = false
 is_ours (reading.Over cause) = false
 
--- the folder is another's, or that couldn't be told for too long: nothing is done any more
+-- the folder is another's, or its epoch couldn't be read for too long: nothing is done any more
 abbrev pub is_over : Reading → Bool
 is_over reading.Unread = false
 is_over (reading.Asked since) = false
@@ -45,6 +42,10 @@ is_to_be_read now reading.Ours = false
 is_to_be_read now (reading.Waits since again) = nat_le again now
 is_to_be_read now (reading.Over cause) = false
 
+-- it is ours or may be read: nobody waits for an answer, nor until it may be read again
+abbrev pub is_free : ℕ → Reading → Bool
+is_free now r = is_ours r || is_to_be_read now r
+
 -- behind the asking; it isn't known since it was asked first
 abbrev pub asked_at : ℕ → Reading → Reading
 asked_at now reading.Unread = reading.Asked now
@@ -57,9 +58,9 @@ abbrev pub asked : ℕ → Epoch → Epoch
 asked now e = record e { reading = asked_at now e.reading }
 
 -- the answer: ours where it is the number that the folder has to have, or had when it was read first; lost where it is another one; and where there is none it is read again
-abbrev pub told : Option ℕ → ℕ → Reading
-told None number = reading.Ours
-told (Some ours) number = if nat_eq number ours then reading.Ours else reading.Over fault.Lost
+abbrev pub compared : Option ℕ → ℕ → Reading
+compared None number = reading.Ours
+compared (Some ours) number = if nat_eq number ours then reading.Ours else reading.Over fault.Lost
 
 abbrev pub first_of : Option ℕ → ℕ → Option ℕ
 first_of None number = Some number
@@ -67,7 +68,7 @@ first_of (Some ours) number = Some ours
 
 abbrev pub answered : ℕ → Option ℕ → ℕ → Epoch → Epoch
 answered now None since e = record e { reading = reading.Waits since (later now 100000) }
-answered now (Some number) since e = record { ours = first_of e.ours number; reading = told e.ours number }
+answered now (Some number) since e = record { ours = first_of e.ours number; reading = compared e.ours number }
 
 -- an answer that nobody waits for changes nothing
 abbrev pub read_at : ℕ → Option ℕ → Reading → Epoch → Epoch

@@ -86,7 +86,7 @@ out_behind asked.Sync next out = out
 out_behind asked.Rename next out = out
 out_behind asked.Spoil next out = out
 out_behind asked.Empty next out = out
-out_behind asked.Tell next out = out
+out_behind asked.Report next out = out
 out_behind asked.End next out = out
 
 -- behind the asking
@@ -97,16 +97,16 @@ ask a f = record f {
   next = out_behind a [] f.next;
 }
 
--- what is told of a file: the answers, and that it is kept no more
-abbrev pub changed_state : Policy → Change → State → State
-changed_state p (change.Begun o) s = state.begun o s
-changed_state p (change.Cut o) s = state.cut p o s
-changed_state p (change.Appended now o) s = state.appended p now o s
-changed_state p (change.Synced o) s = state.synced p o s
-changed_state p (change.Renamed o) s = state.renamed p o s
-changed_state p (change.Spoiled o) s = state.spoiled o s
-changed_state p (change.Emptied o) s = state.emptied o s
-changed_state p (change.GivenUp cause) s = state.given_up p cause s
+-- what was answered to what was asked of a file at this time, or that it can't be kept any more
+abbrev pub changed_state : Policy → ℕ → Change → State → State
+changed_state p now (change.Begun o) s = state.begun o s
+changed_state p now (change.Cut o) s = state.cut p o s
+changed_state p now (change.Appended o) s = state.appended p now o s
+changed_state p now (change.Synced o) s = state.synced p o s
+changed_state p now (change.Renamed o) s = state.renamed p o s
+changed_state p now (change.Spoiled o) s = state.spoiled o s
+changed_state p now (change.Emptied o) s = state.emptied o s
+changed_state p now (change.GivenUp cause) s = state.given_up p cause s
 
 -- bytes that aren't lent any more are let go, and so is the head of a file that was made
 abbrev pub while_new : Front → List ℕ → List ℕ
@@ -123,12 +123,12 @@ kept_lent asked.Sync bytes = []
 kept_lent asked.Rename bytes = []
 kept_lent asked.Spoil bytes = []
 kept_lent asked.Empty bytes = []
-kept_lent asked.Tell bytes = []
+kept_lent asked.Report bytes = []
 kept_lent asked.End bytes = []
 
-abbrev pub changed : Policy → Change → KeptFile → KeptFile
-changed p c f =
-    let s = changed_state p c f.state in
+abbrev pub changed : Policy → ℕ → Change → KeptFile → KeptFile
+changed p now c f =
+    let s = changed_state p now c f.state in
     record f { state = s; head = while_new s.front f.head; out = kept_lent s.asked f.out }
 
 -- what is lent, to be written or appended
@@ -141,7 +141,7 @@ lent_as asked.Sync f = []
 lent_as asked.Rename f = []
 lent_as asked.Spoil f = []
 lent_as asked.Empty f = []
-lent_as asked.Tell f = []
+lent_as asked.Report f = []
 lent_as asked.End f = []
 
 abbrev pub lent : KeptFile → List ℕ

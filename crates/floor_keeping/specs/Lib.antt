@@ -10,3 +10,5 @@ pub mod Runs
 pub mod Read
 pub mod Calls
 pub mod Laws
+-- the steps of the proofs
+pub mod steps

@@ -10,12 +10,12 @@ use Rattle.floor_keeping.specs.declared.kept.Change.TheVariants as change
 use Rattle.floor_keeping.specs.declared.policy.Policy.{Policy}
 use Rattle.floor_keeping.specs.declared.state.Asked.{Asked}
 
--- a call that may change a file: `put` and `close` with what they were given, `next` at a time, or an answer
+-- a call that may change a file: `put` and `close` with what they were given, `next` at a time, or an answer at one
 pub data Step : Type 0 where
   Put : Turn → Step
   Close : List Event → Step
   Next : (now : ℕ) → Step
-  Told : Change → Step
+  Answered : (now : ℕ) → Change → Step
 
 -- The file; the turns that were put to it, and the texts that an Append was answered Done for, one behind another; the texts that stood there when the Sync was
 -- asked that is out; and those that did when the last one was that was answered Done.
@@ -38,7 +38,7 @@ last_turn journal = record { journal = journal; notes = End ∷ [] }
 abbrev pub appended_by : Change → KeptFile → List ℕ
 appended_by (change.Begun o) f = []
 appended_by (change.Cut o) f = []
-appended_by (change.Appended now o) f = if is_append f.state.asked then (if is_done o then f.out else []) else []
+appended_by (change.Appended o) f = if is_append f.state.asked then (if is_done o then f.out else []) else []
 appended_by (change.Synced o) f = []
 appended_by (change.Renamed o) f = []
 appended_by (change.Spoiled o) f = []
@@ -53,7 +53,7 @@ synced_at (Some events) past = past.asked
 abbrev pub synced_by : Change → Past → List ℕ
 synced_by (change.Begun o) past = past.synced
 synced_by (change.Cut o) past = past.synced
-synced_by (change.Appended now o) past = past.synced
+synced_by (change.Appended o) past = past.synced
 synced_by (change.Synced o) past = if is_done o then synced_at past.file.state.synced past else past.synced
 synced_by (change.Renamed o) past = past.synced
 synced_by (change.Spoiled o) past = past.synced
@@ -71,8 +71,8 @@ abbrev pub step : Policy → Step → Past → Past
 step p (Put turn) past = putting turn (put turn.journal turn.notes past.file) past
 step p (Close journal) past = putting (last_turn journal) (close journal past.file) past
 step p (Next now) past = asking (asked_of p now past.file) past
-step p (Told c) past = record past {
-  file = changed p c past.file;
+step p (Answered now c) past = record past {
+  file = changed p now c past.file;
   texts = past.texts ++ appended_by c past.file;
   synced = synced_by c past;
 }

@@ -30,14 +30,18 @@ asks_the_disk syncing.Second = true
 asks_the_disk syncing.Turn = true
 asks_the_disk syncing.Never = false
 
--- when the disk is to be asked for what was appended now, where it was to be asked so before: at once, or a second later unless it is already to be
+-- a time so much later: the last there is, where there is none
+abbrev pub later : ℕ → ℕ → ℕ
+later time micros = min (time + micros) 18446744073709551615
+
+-- when the disk is to be asked for what was appended now, where it was to be asked so before: at any time, or a second later unless it is already to be
 abbrev pub a_second_later : Option ℕ → ℕ → Option ℕ
-a_second_later None now = Some (min (now + 1000000) 18446744073709551615)
+a_second_later None now = Some (later now 1000000)
 a_second_later (Some time) now = Some time
 
 abbrev pub sync_time : Syncing → Option ℕ → ℕ → Option ℕ
 sync_time syncing.Second before now = a_second_later before now
-sync_time syncing.Turn before now = Some now
+sync_time syncing.Turn before now = Some 0
 sync_time syncing.Never before now = None
 
 abbrev pub is_done : Outcome → Bool
@@ -51,7 +55,7 @@ with_events events front course = record {
   sent = events;
   events = events;
   kept = events;
-  told = events;
+  reported = events;
   asked = asked.Nothing;
   synced = None;
   sync_at = None;
@@ -106,18 +110,19 @@ behind_front front.New has_text idle = asked.Begin
 behind_front (front.Torn stands) has_text idle = asked.Cut
 behind_front front.Whole has_text idle = if has_text then asked.Append else idle
 
--- a file that was closed gets its last name, once no Sync is out
-abbrev pub last_of : Option ℕ → Asked
-last_of None = asked.Rename
-last_of (Some events) = asked.Nothing
+-- what is asked once no Sync is out
+abbrev pub unless_synced : Option ℕ → Asked → Asked
+unless_synced None last = last
+unless_synced (Some events) last = asked.Nothing
 
+-- what is asked where no answer is awaited but that of a Sync: a file that was closed gets its last name, and nothing more is kept, only once none is
 abbrev pub to_ask : Bool → State → Course → Asked
 to_ask has_text s course.GoesOn = behind_front s.front has_text asked.Nothing
-to_ask has_text s course.Closing = behind_front s.front has_text (last_of s.synced)
+to_ask has_text s course.Closing = behind_front s.front has_text (unless_synced s.synced asked.Rename)
 to_ask has_text s (course.Renaming cause) = asked.Rename
 to_ask has_text s (course.Spoiling cause) = asked.Spoil
 to_ask has_text s (course.Emptying cause) = asked.Empty
-to_ask has_text s (course.Over e) = asked.End
+to_ask has_text s (course.Over e) = unless_synced s.synced asked.End
 
 -- one answer is awaited at a time, beside that of a Sync
 abbrev pub next_behind : Asked → Asked → Asked
@@ -129,15 +134,27 @@ next_behind asked.Sync next = asked.Nothing
 next_behind asked.Rename next = asked.Nothing
 next_behind asked.Spoil next = asked.Nothing
 next_behind asked.Empty next = asked.Nothing
-next_behind asked.Tell next = asked.Nothing
+next_behind asked.Report next = asked.Nothing
 next_behind asked.End next = asked.Nothing
 
--- what is to be asked next, where text waits or doesn't: first that what is kept is told
+-- what is to be asked next, where text waits or doesn't: first that what is kept is reported
 abbrev pub next_asked : Policy → ℕ → Bool → State → Asked
 next_asked p now has_text s =
-    if nat_lt s.told s.kept then asked.Tell
+    if nat_lt s.reported s.kept then asked.Report
     else if wants_sync p now s then asked.Sync
     else next_behind s.asked (to_ask has_text s s.course)
+
+abbrev pub is_something : Asked → Bool
+is_something asked.Nothing = false
+is_something asked.Begin = true
+is_something asked.Cut = true
+is_something asked.Append = true
+is_something asked.Sync = true
+is_something asked.Rename = true
+is_something asked.Spoil = true
+is_something asked.Empty = true
+is_something asked.Report = true
+is_something asked.End = true
 
 -- behind the asking
 abbrev pub asking : Asked → State → State
@@ -149,7 +166,7 @@ asking asked.Sync s = record s { synced = Some s.written; sync_at = None }
 asking asked.Rename s = record s { asked = asked.Rename }
 asking asked.Spoil s = record s { asked = asked.Spoil }
 asking asked.Empty s = record s { asked = asked.Empty }
-asking asked.Tell s = record s { told = s.kept }
+asking asked.Report s = record s { reported = s.kept }
 asking asked.End s = s
 
 -- the answers: one that nobody waits for changes nothing -------------------------------------------
@@ -157,15 +174,21 @@ asking asked.End s = s
 abbrev pub over : End → State → State
 over e s = record s { asked = asked.Nothing; course = course.Over e }
 
--- its file has failed: it is broken off, or goes on unkept, and the file gets its last name
-abbrev pub failed : Policy → KeptFault → State → State
-failed p cause s =
-    if p.or_stop then over (end.Unkept cause left.Resumes) s
-    else record s { asked = asked.Nothing; course = course.Renaming cause }
+-- a file that fails is as it stands, where the conference is to be broken off, or gets its last name, and the conference goes on unkept
+abbrev pub failing : Policy → KeptFault → Course
+failing p cause = if p.or_stop then course.Over (end.Unkept cause left.Resumes) else course.Renaming cause
 
--- the same, where what was put to it was to be appended
+-- what was asked has failed
+abbrev pub failed : Policy → KeptFault → State → State
+failed p cause s = record s { asked = asked.Nothing; course = failing p cause }
+
+-- it can't be kept any more; an answer that is awaited is awaited still
 abbrev pub given_up : Policy → KeptFault → State → State
-given_up p cause s = if is_kept s.course then failed p cause s else s
+given_up p cause s = if is_open s.course then record s { course = failing p cause } else s
+
+-- the disk hasn't what was put to it
+abbrev pub unsynced : Policy → State → State
+unsynced p s = if is_kept s.course then record s { course = failing p kept.CannotSync } else s
 
 -- this was asked
 abbrev pub is_begin : Asked → Bool
@@ -177,7 +200,7 @@ is_begin asked.Sync = false
 is_begin asked.Rename = false
 is_begin asked.Spoil = false
 is_begin asked.Empty = false
-is_begin asked.Tell = false
+is_begin asked.Report = false
 is_begin asked.End = false
 
 abbrev pub is_cut : Asked → Bool
@@ -189,7 +212,7 @@ is_cut asked.Sync = false
 is_cut asked.Rename = false
 is_cut asked.Spoil = false
 is_cut asked.Empty = false
-is_cut asked.Tell = false
+is_cut asked.Report = false
 is_cut asked.End = false
 
 abbrev pub is_append : Asked → Bool
@@ -201,7 +224,7 @@ is_append asked.Sync = false
 is_append asked.Rename = false
 is_append asked.Spoil = false
 is_append asked.Empty = false
-is_append asked.Tell = false
+is_append asked.Report = false
 is_append asked.End = false
 
 abbrev pub is_sync : Asked → Bool
@@ -213,7 +236,7 @@ is_sync asked.Sync = true
 is_sync asked.Rename = false
 is_sync asked.Spoil = false
 is_sync asked.Empty = false
-is_sync asked.Tell = false
+is_sync asked.Report = false
 is_sync asked.End = false
 
 abbrev pub is_rename : Asked → Bool
@@ -225,7 +248,7 @@ is_rename asked.Sync = false
 is_rename asked.Rename = true
 is_rename asked.Spoil = false
 is_rename asked.Empty = false
-is_rename asked.Tell = false
+is_rename asked.Report = false
 is_rename asked.End = false
 
 abbrev pub is_spoil : Asked → Bool
@@ -237,7 +260,7 @@ is_spoil asked.Sync = false
 is_spoil asked.Rename = false
 is_spoil asked.Spoil = true
 is_spoil asked.Empty = false
-is_spoil asked.Tell = false
+is_spoil asked.Report = false
 is_spoil asked.End = false
 
 abbrev pub is_empty : Asked → Bool
@@ -249,7 +272,7 @@ is_empty asked.Sync = false
 is_empty asked.Rename = false
 is_empty asked.Spoil = false
 is_empty asked.Empty = true
-is_empty asked.Tell = false
+is_empty asked.Report = false
 is_empty asked.End = false
 
 -- the file was made, or couldn't be: then there is none
@@ -283,7 +306,7 @@ abbrev pub synced_as : Policy → Bool → Option ℕ → State → State
 synced_as p is_done None s = s
 synced_as p is_done (Some events) s =
     if is_done then record s { synced = None; kept = if asks_in_turn p.syncing then events else s.kept }
-    else given_up p kept.CannotSync (record s { synced = None })
+    else unsynced p (record s { synced = None })
 
 abbrev pub synced : Policy → Outcome → State → State
 synced p o s = synced_as p (is_done o) s.synced s

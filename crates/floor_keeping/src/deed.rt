@@ -92,7 +92,7 @@ pub(crate) fn deed_of(conference: u32, asked: Asked, state: State) -> Option<Dee
         }),
         Asked::Spoil => Some(Deed::Spoil(conference)),
         Asked::Empty => Some(Deed::Empty(conference)),
-        Asked::Tell => Some(Deed::Kept(conference)),
+        Asked::Report => Some(Deed::Kept(conference)),
         Asked::End => match state.course {
             Course::Over(end) => Some(Deed::Over { conference, end }),
             Course::GoesOn

@@ -162,13 +162,13 @@ impl Epoch {
                 reading: Reading::Waits(since, now.saturating_add(READ_AGAIN_MICROS)),
                 ..self
             },
-            Some(number) => self.told(number),
+            Some(number) => self.compared(number),
         }
     }
 
-    fn told(self, number: u64) -> Epoch
+    fn compared(self, number: u64) -> Epoch
         ensures value { result
-            ≡ record { ours = spec.first_of self.ours number; reading = spec.told self.ours number } }
+            ≡ record { ours = spec.first_of self.ours number; reading = spec.compared self.ours number } }
     {
         match self.ours {
             None => Epoch {

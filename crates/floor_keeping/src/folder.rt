@@ -1,9 +1,8 @@
-//! The folder's start: it is held, looked at, and the files of the conferences that go on are read one after another.
+//! The folder's start: it is locked, looked at, and the files of the conferences that go on are read one after another.
 
-ghost use Rattle.std.specs.Prelude.{◌≡◌, IfNone, IfOk, IfSome, None, OnErr, OnOk, Some, [], true, false};
+ghost use Rattle.std.specs.Prelude.{◌≡◌, IfOk, IfSome, None, OnErr, OnOk, [], false, is_some};
 ghost use Rattle.floor_keeping.specs.Deeds.{conference_of, reads_epoch};
 ghost use Rattle.floor_keeping.specs.Folder as spec;
-ghost use Rattle.floor_keeping.specs.declared.deed.Deed.TheVariants as deed;
 ghost use Rattle.floor_keeping.specs.declared.folder.Stage.TheVariants as stage;
 
 use crate::deed::Deed;
@@ -16,10 +15,10 @@ use std::marker::Model;
 pub(crate) enum Stage {
     /// Nothing was done.
     New,
-    /// It is to be held: that is awaited.
+    /// It is to be locked: that is awaited.
     Locking,
-    /// It is held.
-    Held,
+    /// It is locked for this process.
+    Locked,
     /// What is in it is awaited.
     Finding,
     /// That is known.
@@ -56,94 +55,84 @@ impl Folder {
         }
     }
 
-    /// How far it is.
-    pub(crate) fn stage(&self) -> Stage
-        ensures value { result ≡ self.now.stage }
+    /// Whether it was looked at, and all of its files were read.
+    pub(crate) fn is_ready(&self) -> bool
+        ensures value { result ≡ spec.is_ready self.now }
     {
-        self.stage
+        match self.stage {
+            Stage::Found => self.reading.is_none() && self.unread.is_empty(),
+            Stage::New | Stage::Locking | Stage::Locked | Stage::Finding => false,
+        }
     }
 
-    /// Whether no file is to be read, and none is.
-    pub(crate) fn is_idle(&self) -> bool {
-        self.unread.is_empty() && self.reading.is_none()
-    }
-
-    /// Whether it is held.
-    pub(crate) fn is_held(&self) -> bool {
+    /// Whether it is locked for this process.
+    pub(crate) fn is_locked(&self) -> bool
+        ensures value { result ≡ spec.is_locked self.now.stage }
+    {
         match self.stage {
             Stage::New | Stage::Locking => false,
-            Stage::Held | Stage::Finding | Stage::Found => true,
+            Stage::Locked | Stage::Finding | Stage::Found => true,
         }
     }
 
-    /// Whether it is to be looked at, or a file is to be read.
-    pub(crate) fn is_waiting(&self) -> bool {
+    /// Whether that is awaited.
+    pub(crate) fn is_locking(&self) -> bool
+        ensures value { result ≡ spec.is_locking self.now.stage }
+    {
         match self.stage {
-            Stage::Held => true,
-            Stage::New | Stage::Locking | Stage::Finding => false,
-            Stage::Found => !self.unread.is_empty() && self.reading.is_none(),
+            Stage::Locking => true,
+            Stage::New | Stage::Locked | Stage::Finding | Stage::Found => false,
         }
     }
 
-    /// It is to be held, where it wasn't.
-    pub(crate) fn lock(&mut self) -> Option<Deed>
-        ensures lock { IfSome result (λ d. d ≡ deed.Lock) }
-        ensures none { IfNone result (self.new ≡ self.old) }
+    /// Whether what is in it is awaited.
+    pub(crate) fn is_finding(&self) -> bool
+        ensures value { result ≡ spec.is_finding self.now.stage }
+    {
+        match self.stage {
+            Stage::Finding => true,
+            Stage::New | Stage::Locking | Stage::Locked | Stage::Found => false,
+        }
+    }
+
+    /// Whether anything is to be done of it.
+    pub(crate) fn is_waiting(&self) -> bool
+        ensures value { result ≡ is_some (spec.next_of self.now) }
+    {
+        match self.stage {
+            Stage::New | Stage::Locked => true,
+            Stage::Locking | Stage::Finding => false,
+            Stage::Found => self.reading.is_none() && !self.unread.is_empty(),
+        }
+    }
+
+    /// What is to be done of it next.
+    pub(crate) fn next(&mut self) -> Option<Deed>
+        ensures value { result ≡ spec.next_of self.old }
+        ensures next { self.new ≡ spec.asked self.old }
+
+        ensures of_folder { IfSome result (λ d. conference_of d ≡ None) }
+        ensures behind { IfSome result (λ d. reads_epoch d ≡ false) }
     {
         match self.stage {
             Stage::New => {
                 self.stage = Stage::Locking;
                 Some(Deed::Lock)
             }
-            Stage::Locking | Stage::Held | Stage::Finding | Stage::Found => None,
-        }
-    }
-
-    /// It is to be looked at, or the next file to be read.
-    pub(crate) fn next(&mut self) -> Option<Deed>
-        ensures of_folder { IfSome result (λ d. conference_of d ≡ None) }
-        ensures behind { IfSome result (λ d. reads_epoch d ≡ false) }
-    {
-        match self.stage {
-            Stage::Held => {
+            Stage::Locked => {
                 self.stage = Stage::Finding;
                 Some(Deed::Find)
             }
-            Stage::Found => self.next_file(),
-            Stage::New | Stage::Locking | Stage::Finding => None,
+            Stage::Found => self.read_next(),
+            Stage::Locking | Stage::Finding => None,
         }
-    }
-
-    /// It is held, where that was awaited.
-    pub(crate) fn locked(&mut self)
-        ensures next { self.new ≡ record self.old { stage = spec.locked self.old.stage } }
-    {
-        match self.stage {
-            Stage::Locking => self.stage = Stage::Held,
-            Stage::New | Stage::Held | Stage::Finding | Stage::Found => {}
-        }
-    }
-
-    /// These are the conferences that go on, where that was awaited. After an error nothing has changed.
-    pub(crate) fn found(&mut self, alloc: Global, conferences: &[u32]) -> Result<(), AllocError>
-        ensures took { OnOk result (spec.is_finding self.old.stage ≡ true → self.new
-            ≡ record { stage = stage.Found; unread = conferences.now; reading = self.old.reading }) }
-        ensures not_asked { spec.is_finding self.old.stage ≡ false → self.new ≡ self.old }
-        ensures left { OnErr result (self.new ≡ self.old) }
-    {
-        match self.stage {
-            Stage::Finding => {}
-            Stage::New | Stage::Locking | Stage::Held | Stage::Found => return Ok(()),
-        }
-        self.unread = queue_of(alloc, conferences)?;
-        self.stage = Stage::Found;
-        Ok(())
     }
 
     /// The next file is to be read, unless one is.
-    fn next_file(&mut self) -> Option<Deed>
-        ensures of_folder { IfSome result (λ d. conference_of d ≡ None) }
-        ensures behind { IfSome result (λ d. reads_epoch d ≡ false) }
+    fn read_next(&mut self) -> Option<Deed>
+        ensures value { result ≡ spec.read_next self.old.reading self.old.unread }
+        ensures next { self.old.stage ≡ stage.Found
+            → self.new ≡ spec.reads_next self.old.reading self.old.unread }
     {
         if self.reading.is_some() {
             return None;
@@ -153,11 +142,34 @@ impl Folder {
         Some(Deed::ReadFile(conference))
     }
 
+    /// It is locked, where that was awaited.
+    pub(crate) fn locked(&mut self)
+        ensures next { self.new ≡ spec.locked self.old }
+    {
+        match self.stage {
+            Stage::Locking => self.stage = Stage::Locked,
+            Stage::New | Stage::Locked | Stage::Finding | Stage::Found => {}
+        }
+    }
+
+    /// These are the conferences that go on, where that was awaited. After an error nothing has changed.
+    pub(crate) fn found(&mut self, alloc: Global, conferences: &[u32]) -> Result<(), AllocError>
+        ensures took { OnOk result (self.new ≡ spec.found conferences.now self.old) }
+        ensures left { OnErr result (self.new ≡ self.old) }
+    {
+        match self.stage {
+            Stage::Finding => {}
+            Stage::New | Stage::Locking | Stage::Locked | Stage::Found => return Ok(()),
+        }
+        self.unread = queue_of(alloc, conferences)?;
+        self.stage = Stage::Found;
+        Ok(())
+    }
+
     /// The file of a conference was read, or couldn't be. Says whether it was awaited.
     pub(crate) fn read(&mut self, conference: u32) -> bool
-        ensures stage { self.new.stage ≡ self.old.stage }
-        ensures not_asked { result ≡ false → self.new ≡ self.old }
-        ensures asked { result ≡ true → self.old.reading ≡ Some conference }
+        ensures value { result ≡ spec.is_reading conference self.old }
+        ensures next { self.new ≡ spec.read conference self.old }
     {
         match self.reading {
             Some(asked) if asked == conference => {

@@ -16,13 +16,12 @@ use std::alloc::{AllocError, Global};
 use std::marker::Model;
 use std::mem;
 
-/// What is told of a file: the answers to what was asked, and that it is kept no more.
+/// What was answered to what was asked of a file, or that it can't be kept any more.
 #[derive(Clone, Copy, Debug)]
 pub(crate) enum Change {
     Begun(Outcome),
     Cut(Outcome),
-    /// At this time, in microseconds.
-    Appended(u64, Outcome),
+    Appended(Outcome),
     Synced(Outcome),
     Renamed(Outcome),
     Spoiled(Outcome),
@@ -113,7 +112,7 @@ impl KeptFile {
             | Asked::Rename
             | Asked::Spoil
             | Asked::Empty
-            | Asked::Tell
+            | Asked::Report
             | Asked::End => &[],
         }
     }
@@ -162,16 +161,16 @@ impl KeptFile {
             | Asked::Rename
             | Asked::Spoil
             | Asked::Empty
-            | Asked::Tell
+            | Asked::Report
             | Asked::End => {}
         }
     }
 
-    /// This was told of it.
-    pub(crate) fn change(&mut self, alloc: Global, policy: Policy, change: Change)
-        ensures next { self.new ≡ changed policy change self.old }
+    /// This was answered at this time, in microseconds.
+    pub(crate) fn change(&mut self, alloc: Global, policy: Policy, now: u64, change: Change)
+        ensures next { self.new ≡ changed policy now change self.old }
     {
-        self.state = changed_state(self.state, policy, change);
+        self.state = changed_state(self.state, policy, now, change);
         match self.state.front {
             Front::New => {}
             Front::Torn(_) | Front::Whole => self.head = String::new(alloc),
@@ -184,20 +183,20 @@ impl KeptFile {
             | Asked::Rename
             | Asked::Spoil
             | Asked::Empty
-            | Asked::Tell
+            | Asked::Report
             | Asked::End => self.out = Vec::new(alloc),
         }
     }
 }
 
-/// What is known of a file of which this was told.
-fn changed_state(state: State, policy: Policy, change: Change) -> State
-    ensures value { result ≡ spec.changed_state policy change state }
+/// What is known of a file of which this was answered.
+fn changed_state(state: State, policy: Policy, now: u64, change: Change) -> State
+    ensures value { result ≡ spec.changed_state policy now change state }
 {
     match change {
         Change::Begun(outcome) => state.begun(outcome),
         Change::Cut(outcome) => state.cut(policy, outcome),
-        Change::Appended(now, outcome) => state.appended(policy, now, outcome),
+        Change::Appended(outcome) => state.appended(policy, now, outcome),
         Change::Synced(outcome) => state.synced(policy, outcome),
         Change::Renamed(outcome) => state.renamed(policy, outcome),
         Change::Spoiled(outcome) => state.spoiled(outcome),

@@ -1,6 +1,6 @@
 //! What the calls come to over whole runs. Each law is the contract of a function that does nothing.
 
-ghost use Rattle.floor_keeping.specs.Laws.{EachFileIsItsOwn, NoTurnGoesBeforeItsEpoch, WhatIsKeptIsWritten};
+ghost use Rattle.floor_keeping.specs.Laws.{EachFileIsItsOwn, NoTurnGoesBeforeItsEpoch, WhatIsKeptIsWritten, WhatWasPutIsKept};
 ghost use Rattle.floor_keeping.specs.Read.{WhatIsKeptIsRead};
 
 use floor_kept::what_is_written_is_read;
@@ -24,6 +24,13 @@ pub fn what_is_kept_is_read()
 /// answers make of it, whatever is put, asked and answered of others. So these laws are of each conference's file.
 pub fn each_file_is_its_own()
     ensures law { EachFileIsItsOwn }
+{}
+
+/// For any list of calls, each of which did what its contract says, behind which `next` gave nothing, of a folder that is
+/// locked and whose epoch is ours or may be read: of each conference that goes on and none of whose deeds waits for an
+/// answer, all that was put is appended and kept, was reported to be, and is on the disk where that is asked in each turn.
+pub fn what_was_put_is_kept()
+    ensures law { WhatWasPutIsKept }
 {}
 
 /// For any list of calls, each of which did what its contract says: where `next` may give a deed that needs it, the epoch

@@ -1,9 +1,14 @@
 //! The conferences of whose files anything is to be asked, one behind another.
 
-use std::alloc::{AllocError, Global};
-use std::collections::VecDeque;
+ghost use Rattle.std.specs.Prelude.{◌≡◌, ◌<◌, ◌≤◌, ◌⊎◌, ◌++◌, ◌∷◌, ◌==◌, ◌&&◌, not, [], drop, IfNone, IfSome, List, MatchOption, false, length, option_to_list, true};
+ghost use Rattle.floor_keeping.specs.declared.line.Waking.{Waking as Woken};
+ghost use Rattle.floor_keeping.specs.steps.Listed.{Stands};
 
-/// When somebody is to be put in the line.
+use std::alloc::Global;
+use std::collections::VecDeque;
+use std::marker::Model;
+
+/// When a conference is to be put in the line.
 #[derive(Clone, Copy, Debug)]
 pub(crate) struct Waking {
     pub conference: u32,
@@ -11,54 +16,108 @@ pub(crate) struct Waking {
     pub at: u64,
 }
 
-/// The conferences of whose files anything is to be asked, one behind another.
+/// The conferences of whose files anything is to be asked, one behind another, and when which are put there. Where memory
+/// is refused it is short: some may be missing.
 #[derive(Drop)]
 pub(crate) struct Line {
-    pub conferences: VecDeque<u32>,
-    /// Whether memory was refused, so that one may wait beside it.
-    pub is_short: bool,
-    /// Of whose files the disk is to be asked, the soonest in front.
-    pub wakings: VecDeque<Waking>,
+    conferences: VecDeque<u32>,
+    /// The soonest in front.
+    wakings: VecDeque<Waking>,
+    is_short: bool,
+}
+
+impl Model for Line {
+    ghost use Rattle.floor_keeping.specs.steps.Listed.{Line};
+
+    ghost Value = { Line };
+
+    ghost view = { λ l. record {
+      conferences = l.conferences.items;
+      wakings = l.wakings.items;
+      is_short = l.is_short;
+    } };
 }
 
 impl Line {
     /// None. Takes no memory.
-    pub(crate) fn new(alloc: Global) -> Line {
+    pub(crate) fn new(alloc: Global) -> Line
+        ensures value { result ≡ record { conferences = []; wakings = []; is_short = false } }
+    {
         Line {
             conferences: VecDeque::new(alloc),
-            is_short: false,
             wakings: VecDeque::new(alloc),
+            is_short: false,
         }
     }
 
-    /// Takes room for one more than there are files, of which there are so many. Where more stand in the line, since calls
-    /// put some there twice, it takes what it needs, or is short.
-    pub(crate) fn reserve(&mut self, files: usize) -> Result<(), AllocError> {
-        let room = files.saturating_add(1);
-        self.conferences.reserve(room)?;
-        self.wakings.reserve(room)
-    }
-
     /// Whether nobody waits.
-    pub(crate) fn is_empty(&self) -> bool {
+    pub(crate) fn is_empty(&self) -> bool
+        ensures value { result
+            ≡ (length self.now.conferences == 0 && not self.now.is_short) }
+    {
         self.conferences.is_empty() && !self.is_short
     }
 
+    /// Whether some may be missing.
+    pub(crate) fn is_short(&self) -> bool
+        ensures value { result ≡ self.now.is_short }
+    {
+        self.is_short
+    }
+
+    /// From now on some may be missing, or none is.
+    pub(crate) fn set_short(&mut self, is_short: bool)
+        ensures next { self.new ≡ record self.old { is_short = is_short } }
+    {
+        self.is_short = is_short;
+    }
+
     /// Puts one behind the others, or has the line be short.
-    pub(crate) fn put(&mut self, conference: u32) {
+    pub(crate) fn put(&mut self, conference: u32)
+        ensures next { (self.new ≡ record self.old {
+          conferences = self.old.conferences ++ conference ∷ [];
+        }) ⊎ (self.new ≡ record self.old { is_short = true }) }
+    {
         match self.conferences.push_back(conference) {
             Ok(()) => {}
             Err(_) => self.is_short = true,
         }
     }
 
-    /// Has one be put in the line at this time. There is room for it since its file was begun, as each has one time at most.
-    pub(crate) fn put_at(&mut self, conference: u32, at: u64) {
-        let _put = self.wakings.push_back(Waking { conference, at });
+    /// Has one be put there at this time, or has the line be short.
+    pub(crate) fn put_at(&mut self, conference: u32, at: u64)
+        ensures next { (self.new ≡ record self.old {
+          wakings = self.old.wakings ++ record { conference = conference; at = at } ∷ [];
+        }) ⊎ (self.new ≡ record self.old { is_short = true }) }
+    {
+        match self.wakings.push_back(Waking { conference, at }) {
+            Ok(()) => {}
+            Err(_) => self.is_short = true,
+        }
+    }
+
+    /// Whoever stands first.
+    pub(crate) fn next(&mut self) -> Option<u32>
+        ensures first { self.old.conferences ≡ option_to_list result ++ self.new.conferences }
+        ensures none { IfNone result (self.old.conferences ≡ []) }
+        ensures left { (self.new.wakings ≡ self.old.wakings)
+            × (self.new.is_short ≡ self.old.is_short) }
+        ensures fewer { IfSome result (λ c.
+            length self.new.conferences < length self.old.conferences) }
+    {
+        self.conferences.pop_front()
     }
 
     /// The next whose time has come.
-    pub(crate) fn next_woken(&mut self, now: u64) -> Option<u32> {
+    pub(crate) fn next_woken(&mut self, now: u64) -> Option<u32>
+        ensures first { IfSome result (λ c. (w : Woken)
+            × (self.old.wakings ≡ w ∷ self.new.wakings) × (w.conference ≡ c) × (w.at ≤ now)) }
+        ensures none { IfNone result ((self.new ≡ self.old)
+            × ((w : Woken) (ws : List Woken) → self.old.wakings ≡ w ∷ ws → now < w.at)) }
+        ensures left { (self.new.conferences ≡ self.old.conferences)
+            × (self.new.is_short ≡ self.old.is_short) }
+        ensures fewer { IfSome result (λ c. length self.new.wakings < length self.old.wakings) }
+    {
         match self.wakings.front() {
             Some(first) if first.at <= now => {}
             _ => return None,
@@ -67,11 +126,11 @@ impl Line {
         Some(first.conference)
     }
 
-    /// When the next is put in the line, in microseconds.
-    pub(crate) fn due(&self) -> Option<u64> {
-        match self.wakings.front() {
-            Some(first) => Some(first.at),
-            None => None,
-        }
+    /// Who is put there next.
+    pub(crate) fn first_waking(&self) -> Option<Waking>
+        ensures value { MatchOption result (self.now.wakings ≡ [])
+            (λ w. self.now.wakings ≡ w ∷ drop 1 self.now.wakings) }
+    {
+        self.wakings.front().copied()
     }
 }

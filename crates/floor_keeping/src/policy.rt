@@ -47,7 +47,7 @@ impl Policy {
                 Some(time) => Some(time),
                 None => Some(now.saturating_add(SYNC_MICROS)),
             },
-            Syncing::Turn => Some(now),
+            Syncing::Turn => Some(0),
             Syncing::Never => None,
         }
     }

@@ -24,9 +24,9 @@ pub(crate) enum Asked {
     Spoil,
     /// To cut all off.
     Empty,
-    /// To tell how many events are kept. It isn't answered.
-    Tell,
-    /// To tell that nothing more is kept. It isn't answered.
+    /// To report how many events are kept. It isn't answered.
+    Report,
+    /// To report that nothing more is kept. It isn't answered.
     End,
 }
 
@@ -81,8 +81,8 @@ pub(crate) struct State {
     /// How many events are kept: all that stand in it, or with the disk asked in each turn those behind which a `Sync` was
     /// done.
     pub kept: usize,
-    /// How many were told to be.
-    pub told: usize,
+    /// How many were reported to be.
+    pub reported: usize,
     /// What was asked.
     pub asked: Asked,
     /// How many events stood in it when the `Sync` was asked that is out.
@@ -103,7 +103,7 @@ impl State {
             sent: events,
             events,
             kept: events,
-            told: events,
+            reported: events,
             asked: Asked::Nothing,
             synced: None,
             sync_at: None,
@@ -129,8 +129,8 @@ impl State {
     pub(crate) fn next_asked(self, policy: Policy, now: u64, has_text: bool) -> Asked
         ensures value { result ≡ spec.next_asked policy now has_text self }
     {
-        if self.told < self.kept {
-            return Asked::Tell;
+        if self.reported < self.kept {
+            return Asked::Report;
         }
         if self.wants_sync(policy, now) {
             return Asked::Sync;
@@ -144,22 +144,26 @@ impl State {
             | Asked::Rename
             | Asked::Spoil
             | Asked::Empty
-            | Asked::Tell
+            | Asked::Report
             | Asked::End => Asked::Nothing,
         }
     }
 
-    /// What is to be asked where no answer is awaited.
+    /// What is to be asked where no answer is awaited, but that of a `Sync`: a file that was closed gets its last name, and
+    /// nothing more is kept, only once none is.
     fn to_ask(self, has_text: bool) -> Asked
         ensures value { result ≡ spec.to_ask has_text self self.course }
     {
         match self.course {
             Course::GoesOn => self.front.asked_behind(has_text, Asked::Nothing),
-            Course::Closing => self.front.asked_behind(has_text, last_of(self.synced)),
+            Course::Closing => {
+                let last = unless_synced(self.synced, Asked::Rename);
+                self.front.asked_behind(has_text, last)
+            },
             Course::Renaming(_) => Asked::Rename,
             Course::Spoiling(_) => Asked::Spoil,
             Course::Emptying(_) => Asked::Empty,
-            Course::Over(_) => Asked::End,
+            Course::Over(_) => unless_synced(self.synced, Asked::End),
         }
     }
 
@@ -179,8 +183,8 @@ impl State {
                 sync_at: None,
                 ..self
             },
-            Asked::Tell => State {
-                told: self.kept,
+            Asked::Report => State {
+                reported: self.kept,
                 ..self
             },
             Asked::Begin | Asked::Cut | Asked::Rename | Asked::Spoil | Asked::Empty => {
@@ -200,27 +204,36 @@ impl State {
         }
     }
 
-    /// It has failed.
+    /// What was asked has failed.
     fn failed(self, policy: Policy, cause: KeptFault) -> State
         ensures value { result ≡ spec.failed policy cause self }
     {
-        if policy.or_stop {
-            self.over(End::Unkept(cause, Left::Resumes))
-        } else {
-            State {
-                asked: Asked::Nothing,
-                course: Course::Renaming(cause),
-                ..self
-            }
-        }
+        self.on_course(failing(policy, cause))
     }
 
-    /// It is kept no more, where it was.
+    /// It can't be kept any more, where more might be put to it. An answer that is awaited is awaited still.
     pub(crate) fn given_up(self, policy: Policy, cause: KeptFault) -> State
         ensures value { result ≡ spec.given_up policy cause self }
     {
+        if self.course.is_open() {
+            State {
+                course: failing(policy, cause),
+                ..self
+            }
+        } else {
+            self
+        }
+    }
+
+    /// The disk hasn't what was put to it. An answer that is awaited is awaited still.
+    fn unsynced(self, policy: Policy) -> State
+        ensures value { result ≡ spec.unsynced policy self }
+    {
         if self.course.is_kept() {
-            self.failed(policy, cause)
+            State {
+                course: failing(policy, KeptFault::CannotSync),
+                ..self
+            }
         } else {
             self
         }
@@ -310,7 +323,7 @@ impl State {
             ..self
         };
         if !outcome.is_done() {
-            return answered.given_up(policy, KeptFault::CannotSync);
+            return answered.unsynced(policy);
         }
         State {
             kept: policy.kept(events, self.kept),
@@ -424,7 +437,9 @@ impl State {
 
 impl Asked {
     /// Whether it is anything.
-    pub(crate) fn is_something(self) -> bool {
+    pub(crate) fn is_something(self) -> bool
+        ensures value { result ≡ spec.is_something self }
+    {
         match self {
             Asked::Nothing => false,
             Asked::Begin
@@ -434,7 +449,7 @@ impl Asked {
             | Asked::Rename
             | Asked::Spoil
             | Asked::Empty
-            | Asked::Tell
+            | Asked::Report
             | Asked::End => true,
         }
     }
@@ -491,12 +506,23 @@ impl Front {
     }
 }
 
-/// A file that was closed gets its last name, once no `Sync` is out.
-fn last_of(synced: Option<usize>) -> Asked
-    ensures value { result ≡ spec.last_of synced }
+/// What becomes of a file that fails by this.
+fn failing(policy: Policy, cause: KeptFault) -> Course
+    ensures value { result ≡ spec.failing policy cause }
+{
+    if policy.or_stop {
+        Course::Over(End::Unkept(cause, Left::Resumes))
+    } else {
+        Course::Renaming(cause)
+    }
+}
+
+/// What is asked once no `Sync` is out.
+fn unless_synced(synced: Option<usize>, last: Asked) -> Asked
+    ensures value { result ≡ spec.unless_synced synced last }
 {
     match synced {
-        None => Asked::Rename,
+        None => last,
         Some(_) => Asked::Nothing,
     }
 }

@@ -1,19 +1,20 @@
 //! What is asked of the files, and what becomes of them.
 
-ghost use Rattle.std.specs.Prelude.{◌≡◌, ◌≢◌, ◌↔◌, ℕ, Err, IfNone, IfSome, None, OnErr, OnOk, Some, false, is_some, length, nat_eq, option_and_then, true};
+ghost use Rattle.std.specs.Prelude.{◌≡◌, ◌≢◌, ◌↔◌, ◌<◌, ◌≤◌, ℕ, Err, IfNone, IfSome, MatchOption, None, OnErr, OnOk, Some, false, is_some, length, nat_eq, option_and_then, true};
 ghost use Rattle.std.specs.Option.{option_map};
 ghost use Rattle.indexmap.specs.IndexMap.{get};
 ghost use Rattle.floor_keeping.specs.Deeds.{conference_of, reads_epoch};
 ghost use Rattle.floor_keeping.specs.Kept.{KeptFile as Known, asked_of, changed, close, put};
-ghost use Rattle.floor_keeping.specs.Table.{Asks, AsksOf, IsShorter, SameFiles, SameOthers, Took, left_by, takes};
-ghost use Rattle.floor_keeping.specs.declared.refusal.BeginRefusal.TheVariants as begin;
+ghost use Rattle.floor_keeping.specs.State.{is_something};
+ghost use Rattle.floor_keeping.specs.Table.{Asks, AsksOf, IsBy, IsShorter, NothingAsked, SameFiles, SameOthers, Took, left_by, takes};
+ghost use Rattle.floor_keeping.specs.steps.Listed.{AllStand, AllWoken, AscendFrom, IsListed, IsWoken, Stands, Within};
 ghost use Rattle.floor_keeping.specs.declared.refusal.PutRefusal.TheVariants as putting;
 
 use crate::deed::{Deed, deed_of};
 use crate::kept::{Change, KeptFile};
 use crate::line::Line;
 use crate::policy::Policy;
-use crate::refusal::{BeginRefusal, PutRefusal};
+use crate::refusal::PutRefusal;
 use crate::state::{Asked, State};
 use floor_kept::Entry;
 use floor_machine::Event;
@@ -28,7 +29,7 @@ pub(crate) struct Look {
 }
 
 /// What is to be asked of the file of a conference.
-pub(crate) fn look_at(
+fn look_at(
     files: &IndexMap<u32, KeptFile>,
     conference: u32,
     policy: Policy,
@@ -36,12 +37,43 @@ pub(crate) fn look_at(
 ) -> Option<Look>
     ensures found { IfSome result (λ look. (f : Known) × (get nat_eq files.now conference ≡ Some f)
         × (look.asked ≡ asked_of policy now f) × (look.state ≡ f.state)) }
+    ensures none { IfNone result (get nat_eq files.now conference ≡ None) }
 {
     let file = files.get(&conference)?;
     Some(Look {
         asked: file.next_asked(policy, now),
         state: file.state(),
     })
+}
+
+/// Whether anything is to be asked of the file of a conference.
+fn is_waiting(files: &IndexMap<u32, KeptFile>, conference: u32, policy: Policy, now: u64) -> bool
+    ensures waits { (f : Known) → get nat_eq files.now conference ≡ Some f
+        → result ≡ is_something (asked_of policy now f) }
+{
+    match look_at(files, conference, policy, now) {
+        Some(look) => look.asked.is_something(),
+        None => false,
+    }
+}
+
+/// Puts a conference in the line, where anything is to be asked of its file.
+pub(crate) fn stand_in(
+    files: &IndexMap<u32, KeptFile>,
+    line: &mut Line,
+    conference: u32,
+    policy: Policy,
+    now: u64,
+)
+    ensures here { line.new.is_short ≡ false → (f : Known) → get nat_eq files.now conference ≡ Some f
+        → is_something (asked_of policy now f) ≡ true → Stands line.new.conferences conference }
+    ensures others { (k : ℕ) → Stands line.old.conferences k → Stands line.new.conferences k }
+    ensures short { line.new.is_short ≡ false → line.old.is_short ≡ false }
+    ensures wakings { line.new.wakings ≡ line.old.wakings }
+{
+    if is_waiting(files, conference, policy, now) {
+        line.put(conference);
+    }
 }
 
 /// Asks this of the file of a conference.
@@ -62,7 +94,7 @@ fn ask_this(files: &mut IndexMap<u32, KeptFile>, alloc: Global, conference: u32,
         | Asked::Rename
         | Asked::Spoil
         | Asked::Empty
-        | Asked::Tell => match files.get_mut(&conference) {
+        | Asked::Report => match files.get_mut(&conference) {
             Some(file) => file.ask(alloc, asked),
             None => {}
         },
@@ -82,6 +114,8 @@ fn ask_in(
     ensures behind { IfSome result (λ d. reads_epoch d ≡ false) }
     ensures of_file { IfSome result (λ d. is_some (conference_of d) ≡ true) }
     ensures none { IfNone result (SameFiles (get nat_eq files.old) (get nat_eq files.new)) }
+    ensures nothing { IfNone result ((f : Known) → get nat_eq files.old conference ≡ Some f
+        → is_something (asked_of policy now f) ≡ false) }
 {
     let look = look_at(files, conference, policy, now)?;
     let deed = deed_of(conference, look.asked, look.state)?;
@@ -89,7 +123,7 @@ fn ask_in(
     Some(deed)
 }
 
-/// Asks of the first in the line of whose file anything is to be asked.
+/// Asks of the first in the line of whose file anything is to be asked, or where the line is short of any.
 pub(crate) fn turn_in(
     files: &mut IndexMap<u32, KeptFile>,
     line: &mut Line,
@@ -102,126 +136,161 @@ pub(crate) fn turn_in(
     ensures behind { IfSome result (λ d. reads_epoch d ≡ false) }
     ensures of_file { IfSome result (λ d. is_some (conference_of d) ≡ true) }
     ensures none { IfNone result (SameFiles (get nat_eq files.old) (get nat_eq files.new)) }
+    ensures nothing { IfNone result ((time : ℕ) → IsListed policy time now (get nat_eq files.old) line.old
+        → NothingAsked policy now (get nat_eq files.old)) }
+    ensures listed { (time : ℕ) → IsListed policy time now (get nat_eq files.old) line.old
+        → IsListed policy time now (get nat_eq files.new) line.new }
 {
-    let conference = next_waiting(files, line, policy, now)?;
-    line.put(conference);
-    ask_in(files, alloc, conference, policy, now)
-}
-
-/// The first in the line of whose file anything is to be asked; where there is none and the line is short, any other, until
-/// there is none either.
-fn next_waiting(
-    files: &IndexMap<u32, KeptFile>,
-    line: &mut Line,
-    policy: Policy,
-    now: u64,
-) -> Option<u32> {
-    for _ in 0..line.conferences.len() {
-        let conference = line.conferences.pop_front()?;
-        if is_waiting(files, conference, policy, now) {
-            return Some(conference);
+    while let Some(conference) = line.next() {
+        match ask_in(files, alloc, conference, policy, now) {
+            Some(deed) => {
+                stand_in(files, line, conference, policy, now);
+                return Some(deed);
+            }
+            None => {}
         }
     }
-    if !line.is_short {
+    if !line.is_short() {
         return None;
     }
-    let found = find_waiting(files, policy, now);
-    line.is_short = found.is_some();
-    found
+    look_in(files, line, alloc, policy, now)
 }
 
-/// Whether anything is to be asked of the file of a conference.
-fn is_waiting(files: &IndexMap<u32, KeptFile>, conference: u32, policy: Policy, now: u64) -> bool {
-    match look_at(files, conference, policy, now) {
-        Some(look) => look.asked.is_something(),
-        None => false,
+/// Asks of any file what is to be asked of it. Where nothing is, and the disk isn't to be asked later, the line has all.
+fn look_in(
+    files: &mut IndexMap<u32, KeptFile>,
+    line: &mut Line,
+    alloc: Global,
+    policy: Policy,
+    now: u64,
+) -> Option<Deed>
+    requires { line.old.is_short ≡ true }
+    ensures asked { IfSome result
+        (Asks policy now (get nat_eq files.old) (get nat_eq files.new)) }
+    ensures behind { IfSome result (λ d. reads_epoch d ≡ false) }
+    ensures of_file { IfSome result (λ d. is_some (conference_of d) ≡ true) }
+    ensures none { IfNone result (SameFiles (get nat_eq files.old) (get nat_eq files.new)) }
+    ensures nothing { IfNone result (NothingAsked policy now (get nat_eq files.old)) }
+    ensures wakings { line.new.wakings ≡ line.old.wakings }
+    ensures stand { line.new.is_short ≡ false
+        → AllStand policy now (get nat_eq files.new) line.new.conferences }
+    ensures woken { line.new.is_short ≡ false
+        → AllWoken now (get nat_eq files.new) line.new.wakings }
+{
+    match find_waiting(files, policy, now) {
+        Some(conference) => ask_in(files, alloc, conference, policy, now),
+        None => {
+            line.set_short(soonest_in(files, now).is_some());
+            None
+        }
     }
 }
 
 /// A conference of whose file anything is to be asked.
-fn find_waiting(files: &IndexMap<u32, KeptFile>, policy: Policy, now: u64) -> Option<u32> {
-    for (conference, file) in files.iter() {
-        if file.next_asked(policy, now).is_something() {
-            return Some(*conference);
+fn find_waiting(files: &IndexMap<u32, KeptFile>, policy: Policy, now: u64) -> Option<u32>
+    ensures found { IfSome result (λ c. (f : Known) × (get nat_eq files.now c ≡ Some f)
+        × (is_something (asked_of policy now f) ≡ true)) }
+    ensures none { IfNone result (NothingAsked policy now (get nat_eq files.now)) }
+{
+    for index in 0..files.len() {
+        if let Some((conference, file)) = files.get_index(index) {
+            if file.next_asked(policy, now).is_something() {
+                return Some(*conference);
+            }
         }
     }
     None
 }
 
-/// Puts those in the line of whose files the disk is to be asked by now.
-pub(crate) fn wake_in(files: &IndexMap<u32, KeptFile>, line: &mut Line, policy: Policy, now: u64) {
-    for _ in 0..line.wakings.len() {
-        match line.next_woken(now) {
-            Some(conference) => stand_in(files, line, conference, policy, now),
-            None => return,
+/// When the disk is to be asked for any file next, later than now.
+pub(crate) fn soonest_in(files: &IndexMap<u32, KeptFile>, now: u64) -> Option<u64>
+    ensures first { (c t : ℕ) (f : Known) → get nat_eq files.now c ≡ Some f
+        → f.state.sync_at ≡ Some t → now < t → IsBy t result }
+    ensures later { IfSome result (λ at. now < at) }
+{
+    let mut soonest = None;
+    for index in 0..files.len() {
+        if let Some((_conference, file)) = files.get_index(index) {
+            soonest = sooner(soonest, file.state().sync_at, now);
         }
     }
+    soonest
 }
 
-/// Puts a conference in the line, where anything is to be asked of its file.
-pub(crate) fn stand_in(
-    files: &IndexMap<u32, KeptFile>,
-    line: &mut Line,
-    conference: u32,
-    policy: Policy,
-    now: u64,
-) {
-    if is_waiting(files, conference, policy, now) {
-        line.put(conference);
+/// The sooner of these times, of which the second counts where it is later than now.
+fn sooner(soonest: Option<u64>, other: Option<u64>, now: u64) -> Option<u64>
+    ensures one { (t : ℕ) → IsBy t soonest → IsBy t result }
+    ensures other { (t : ℕ) → other ≡ Some t → now < t → IsBy t result }
+    ensures later { IfSome soonest (λ at. now < at) → IfSome result (λ at. now < at) }
+{
+    match (soonest, other) {
+        (Some(time), Some(at)) if now < at => Some(time.min(at)),
+        (None, Some(at)) if now < at => Some(at),
+        _ => soonest,
     }
 }
 
-/// This was told of the file of a conference.
+/// Puts those in the line of whose files the disk is to be asked by now.
+pub(crate) fn wake_in(files: &IndexMap<u32, KeptFile>, line: &mut Line, policy: Policy, now: u64)
+    ensures listed { (before time was : ℕ) → was ≤ now → before ≤ time
+        → IsListed policy before was (get nat_eq files.now) line.old
+        → IsListed policy time now (get nat_eq files.now) line.new }
+{
+    while let Some(conference) = line.next_woken(now) {
+        stand_in(files, line, conference, policy, now);
+    }
+}
+
+/// Has a conference be put in the line when the disk is to be asked for its file, later than now, where it wasn't to be
+/// before.
+pub(crate) fn wake_later(
+    line: &mut Line,
+    conference: u32,
+    before: Option<u64>,
+    after: Option<u64>,
+    now: u64,
+)
+    ensures here { (t : ℕ) → line.new.is_short ≡ false → before ≡ None → after ≡ Some t → now < t
+        → IsWoken line.new.wakings conference t }
+    ensures others { (c t : ℕ) → IsWoken line.old.wakings c t → IsWoken line.new.wakings c t }
+    ensures ascending { (first last : ℕ) → AscendFrom first line.old.wakings → Within last line.old.wakings
+        → ((t : ℕ) → before ≡ None → after ≡ Some t → now < t → (first ≤ t) × (t ≡ last))
+        → AscendFrom first line.new.wakings × Within last line.new.wakings }
+    ensures short { line.new.is_short ≡ false → line.old.is_short ≡ false }
+    ensures conferences { line.new.conferences ≡ line.old.conferences }
+{
+    match (before, after) {
+        (None, Some(at)) if now < at => line.put_at(conference, at),
+        _ => {}
+    }
+}
+
+/// When the disk is to be asked for the file of a conference.
+pub(crate) fn sync_time(files: &IndexMap<u32, KeptFile>, conference: u32) -> Option<u64>
+    ensures value { result ≡ option_and_then (λ f. f.state.sync_at) (get nat_eq files.now conference) }
+{
+    match files.get(&conference) {
+        Some(file) => file.state().sync_at,
+        None => None,
+    }
+}
+
+/// This was answered of the file of a conference at this time.
 pub(crate) fn change_in(
     files: &mut IndexMap<u32, KeptFile>,
     alloc: Global,
     conference: u32,
     policy: Policy,
+    now: u64,
     change: Change,
 )
     ensures here { get nat_eq files.new conference
-        ≡ option_map (changed policy change) (get nat_eq files.old conference) }
+        ≡ option_map (changed policy now change) (get nat_eq files.old conference) }
     ensures others { SameOthers conference (get nat_eq files.old) (get nat_eq files.new) }
 {
     match files.get_mut(&conference) {
-        Some(file) => file.change(alloc, policy, change),
+        Some(file) => file.change(alloc, policy, now, change),
         None => {}
-    }
-}
-
-/// Takes room for the file of a conference that has none.
-pub(crate) fn make_room(
-    files: &mut IndexMap<u32, KeptFile>,
-    line: &mut Line,
-    conference: u32,
-) -> Result<(), BeginRefusal>
-    ensures unused { OnOk result (get nat_eq files.old conference ≡ None) }
-    ensures used { result ≡ Err begin.Used
-        ↔ is_some (get nat_eq files.old conference) ≡ true }
-    ensures files { SameFiles (get nat_eq files.old) (get nat_eq files.new) }
-{
-    if files.contains_key(&conference) {
-        return Err(BeginRefusal::Used);
-    }
-    line.reserve(files.len())?;
-    files.reserve(1)?;
-    Ok(())
-}
-
-/// Adds the file of a conference that has none.
-pub(crate) fn add_in(
-    files: &mut IndexMap<u32, KeptFile>,
-    conference: u32,
-    file: KeptFile,
-) -> Result<(), BeginRefusal>
-    ensures took { OnOk result (get nat_eq files.new conference ≡ Some file) }
-    ensures refused { OnErr result (result ≡ Err begin.Memory) }
-    ensures left { OnErr result (SameFiles (get nat_eq files.old) (get nat_eq files.new)) }
-    ensures others { SameOthers conference (get nat_eq files.old) (get nat_eq files.new) }
-{
-    match files.insert(conference, file) {
-        Ok(_) => Ok(()),
-        Err(_) => Err(BeginRefusal::Memory),
     }
 }
 
@@ -238,7 +307,7 @@ pub(crate) fn put_in(
     ensures not_kept { result ≡ Err putting.NotKept
         ↔ takes (get nat_eq files.old conference) ≡ false }
     ensures shorter { result ≡ Err putting.Shorter
-        → IsShorter (length journal.now) (get nat_eq files.old conference) }
+        ↔ IsShorter (length journal.now) (get nat_eq files.old conference) }
     ensures left { OnErr result (SameFiles (get nat_eq files.old) (get nat_eq files.new)) }
 {
     check_in(files, conference, journal.len())?;
@@ -263,7 +332,7 @@ pub(crate) fn close_in(
     ensures not_kept { result ≡ Err putting.NotKept
         ↔ takes (get nat_eq files.old conference) ≡ false }
     ensures shorter { result ≡ Err putting.Shorter
-        → IsShorter (length journal.now) (get nat_eq files.old conference) }
+        ↔ IsShorter (length journal.now) (get nat_eq files.old conference) }
     ensures left { OnErr result (SameFiles (get nat_eq files.old) (get nat_eq files.new)) }
 {
     check_in(files, conference, journal.len())?;
@@ -287,7 +356,7 @@ fn check_in(
     ensures not_kept { result ≡ Err putting.NotKept
         ↔ takes (get nat_eq files.now conference) ≡ false }
     ensures shorter { result ≡ Err putting.Shorter
-        → IsShorter events (get nat_eq files.now conference) }
+        ↔ IsShorter events (get nat_eq files.now conference) }
     ensures others { result ≢ Err putting.Memory }
 {
     let Some(file) = files.get(&conference) else {

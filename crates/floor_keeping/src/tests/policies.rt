@@ -24,7 +24,7 @@ const OR_STOP: Policy = Policy {
     or_stop: true,
 };
 
-/// The folder is held and empty.
+/// The folder is locked and empty.
 const START: &str = "\
 > time 0
 < lock
@@ -472,6 +472,80 @@ const BROKEN_OFF: &str = "\
 #[test]
 fn where_that_is_asked_for_a_conference_is_broken_off(rt: HostRuntime) -> Result<(), AllocError> {
     let found = behind_start(rt.alloc(), OR_STOP, BROKEN_OFF)?;
+    assert_eq!(rt; found.as_str(), "");
+    Ok(())
+}
+
+const GIVEN_UP: &str = "\
+>> begin 1
+> put 1 1
+< epoch
+< . 30000
+> epoch 3
+< begin 1 true
+< .
+# While its file is made it can't be kept any more: the file gets its last name once it is there.
+> give_up 1
+< .
+> put 1 2
+= not kept
+< .
+> begun 1
+< epoch
+< . 30000
+> epoch 3
+< rename 1 unkept
+< .
+";
+
+#[test]
+fn a_file_is_given_up_once_it_is_answered(rt: HostRuntime) -> Result<(), AllocError> {
+    let found = behind_start(rt.alloc(), NEVER, GIVEN_UP)?;
+    assert_eq!(rt; found.as_str(), "");
+    Ok(())
+}
+
+const BESIDE_A_SYNC: &str = "\
+>> begin 1
+> put 1 1
+< epoch
+< . 30000
+> epoch 3
+< begin 1 true
+< .
+> begun 1
+< epoch
+< . 30000
+> epoch 3
+< append 1 1 join 10 |
+< .
+> appended 1
+< epoch
+< . 30000
+> epoch 3
+< sync 1
+< .
+> put 1 2
+< epoch
+< . 30000
+> epoch 3
+< append 1 2 leave 1 |
+< .
+# Nothing is said of a file that has failed before the disk has answered.
+> appended 1 failed
+< .
+> synced 1
+< epoch
+< . 30000
+> epoch 3
+< kept 1 1
+< over 1 unkept CannotWrite resumes
+< .
+";
+
+#[test]
+fn a_file_that_fails_beside_a_sync_waits_for_it(rt: HostRuntime) -> Result<(), AllocError> {
+    let found = behind_start(rt.alloc(), OR_STOP, BESIDE_A_SYNC)?;
     assert_eq!(rt; found.as_str(), "");
     Ok(())
 }

@@ -13,7 +13,7 @@ const START: &str = "\
 > time 0
 < lock
 < .
-# Nothing is asked before the folder is held, and the epoch is read before anything is looked at.
+# Nothing is asked before the folder is locked, and the epoch is read before anything is looked at.
 > found 7
 < .
 > locked
@@ -49,7 +49,7 @@ const START: &str = "\
 ";
 
 #[test]
-fn the_folder_is_held_and_looked_at(rt: HostRuntime) -> Result<(), AllocError> {
+fn the_folder_is_locked_and_looked_at(rt: HostRuntime) -> Result<(), AllocError> {
     let found = difference(rt.alloc(), POLICY, None, START)?;
     assert_eq!(rt; found.as_str(), "");
     Ok(())
@@ -237,7 +237,7 @@ const NO_FOLDER: &str = "\
 ";
 
 #[test]
-fn a_folder_that_cannot_be_held_ends_all(rt: HostRuntime) -> Result<(), AllocError> {
+fn a_folder_that_cannot_be_locked_ends_all(rt: HostRuntime) -> Result<(), AllocError> {
     let found = difference(rt.alloc(), POLICY, None, NO_FOLDER)?;
     assert_eq!(rt; found.as_str(), "");
     Ok(())

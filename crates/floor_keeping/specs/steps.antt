@@ -1,0 +1,2 @@
+-- For the proofs alone: definitions of what no caller sees.
+pub mod Listed
