@@ -88,6 +88,13 @@ impl Files {
         self.epoch.fault()
     }
 
+    /// How files are dealt with.
+    pub fn policy(&self) -> Policy
+        ensures value { result ≡ self.now.table.policy }
+    {
+        self.table.policy()
+    }
+
     /// Whether the folder was looked at, and all of its files were read.
     pub fn is_ready(&self) -> bool
         ensures value { result ≡ folder.is_ready self.now.folder }
@@ -113,6 +120,11 @@ impl Files {
             Some(file) => file.state().course.is_open(),
             None => false,
         }
+    }
+
+    /// Whether an answer is awaited of any conference's file.
+    pub fn is_awaited(&self) -> bool {
+        self.table.is_awaited()
     }
 
     /// What is to be written or appended to the file of a conference; nothing where neither is asked.

@@ -66,6 +66,18 @@ impl Table {
         }
     }
 
+    /// How files are dealt with.
+    pub(crate) fn policy(&self) -> Policy
+        ensures value { result ≡ self.now.policy }
+    {
+        self.policy
+    }
+
+    /// Whether an answer is awaited of any file.
+    pub(crate) fn is_awaited(&self) -> bool {
+        self.files.values().any(|file| file.state().is_awaited())
+    }
+
     /// How late it is, in microseconds.
     pub(crate) fn time(&self) -> u64
         ensures value { result ≡ self.now.time }

@@ -24,7 +24,7 @@ use crate::counting::{count_in_slots, count_of_user};
 use crate::members::{Member, Members};
 use crate::refusal::JoinRefusal;
 use crate::turn::{come, drop_waiting, end, fail, leave, part, take};
-use floor_loop::{Act, Config, ConnNo, Grace, HubRefusal, Loop, Said};
+use floor_loop::{Act, Config, ConnNo, Event, Grace, HubRefusal, Loop, ResumeRefusal, Said};
 use std::alloc::Global;
 
 /// How many messages of a socket are served in a turn at most: our choice. One may take a hundred thousand times as
@@ -108,6 +108,17 @@ impl Meetings {
         ensures bounds { self.new.bounds ≡ self.old.bounds }
     {
         self.hub.open(alloc, config)
+    }
+
+    /// Opens a conference from its configuration and its journal, as the loop does; each live member is away.
+    pub fn resume(
+        &mut self,
+        alloc: Global,
+        config: Config,
+        events: &[Event],
+        now: u64,
+    ) -> Result<(), ResumeRefusal> {
+        self.hub.resume(alloc, config, events, now)
     }
 
     /// Gives the memory of a conference back that has ended and of which no connection is live, as the hub does.
