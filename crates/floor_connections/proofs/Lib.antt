@@ -2,3 +2,7 @@ pub mod Ports
 pub mod Steps
 pub mod Ending
 pub mod Users
+pub mod Waiting
+pub mod Lengths
+pub mod Logging
+pub mod Hearing

@@ -22,6 +22,7 @@ name_of_departure departure.EndOfStream = codes "EndOfStream"
 name_of_departure departure.InsideMessage = codes "InsideMessage"
 name_of_departure departure.Reset = codes "Reset"
 name_of_departure (departure.Refused refusal) = hub.name_of refusal
+name_of_departure departure.TooLong = codes "TooLong"
 name_of_departure departure.Slow = codes "Slow"
 name_of_departure departure.Closed = codes "Closed"
 name_of_departure departure.BrokenOff = codes "BrokenOff"

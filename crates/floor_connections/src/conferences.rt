@@ -1,8 +1,9 @@
 //! With whom the connections of a conference share their turns, where is listened for them, and who was shown out.
 
-ghost use Rattle.std.specs.Prelude.{◌≡◌, ◌&&◌, ℕ, None, OnErr, OnOk, Some, false, nat_eq, true};
+ghost use Rattle.std.specs.Prelude.{◌≡◌, ◌&&◌, ℕ, MatchOption, None, OnErr, OnOk, Some, false, nat_eq, true};
 ghost use Rattle.std.specs.List.{list_any};
-ghost use Rattle.floor_connections.specs.Conferences.{SameUsers, conference_at, is_removed};
+ghost use Rattle.floor_connections.specs.Conferences.{SameHeld, SameUsers, conference_at, is_held, is_removed};
+ghost use Rattle.floor_connections.specs.Received.{IsReached, NoneIsReached, SameReceived, more_received, received};
 ghost use Rattle.floor_connections.specs.declared.conferences.Conference.{Conference as Known};
 
 use indexmap::IndexMap;
@@ -10,13 +11,20 @@ use slab::Slab;
 use std::alloc::{AllocError, Global};
 use std::mem;
 
+/// After how many bytes each that its members have sent the log says how large a conference is.
+const LARGE_BYTES: u64 = 100_000_000;
+
+const LARGE_MEGABYTES: u64 = 100;
+
 /// A conference: the group of its turns, the slots of its listeners, whether it was told that it has ended or is broken
-/// off, and its users who were shown out.
+/// off, whether it is held, how many bytes its members have sent, and its users who were shown out.
 #[derive(Drop)]
 struct Conference {
     group: usize,
     listeners: Vec<usize>,
     is_over: bool,
+    is_held: bool,
+    received: u64,
     removed: Vec<u16>,
 }
 
@@ -44,6 +52,7 @@ impl Conferences {
     /// One more, unless there is one with the number. Gives its group.
     pub fn add(&mut self, conference: u32) -> Result<usize, AllocError>
         ensures users { SameUsers self.old self.new }
+        ensures held { SameHeld self.old self.new }
     {
         if let Some(item) = self.items.get(&conference) {
             return Ok(item.group);
@@ -57,6 +66,8 @@ impl Conferences {
                 group,
                 listeners: Vec::new(self.alloc),
                 is_over: false,
+                is_held: false,
+                received: 0,
                 removed: Vec::new(self.alloc),
             },
         );
@@ -79,6 +90,7 @@ impl Conferences {
     /// A listener of a conference, where there is one with the number.
     pub fn add_listener(&mut self, conference: u32, slot: usize) -> Result<(), AllocError>
         ensures users { SameUsers self.old self.new }
+        ensures held { SameHeld self.old self.new }
     {
         match self.items.get_mut(&conference) {
             Some(item) => {
@@ -92,6 +104,7 @@ impl Conferences {
     /// A slot isn't one of a conference's listeners any more.
     pub fn remove_listener(&mut self, conference: u32, slot: usize)
         ensures users { SameUsers self.old self.new }
+        ensures held { SameHeld self.old self.new }
     {
         if let Some(item) = self.items.get_mut(&conference) {
             item.listeners.retain(|other| *other != slot);
@@ -101,6 +114,8 @@ impl Conferences {
     /// The slots of the listeners of a conference, which aren't its any more.
     pub fn take_listeners(&mut self, conference: u32) -> Vec<usize>
         ensures users { SameUsers self.old self.new }
+        ensures held { SameHeld self.old self.new }
+        ensures received { SameReceived self.old self.new }
     {
         let mut listeners = Vec::new(self.alloc);
         if let Some(item) = self.items.get_mut(&conference) {
@@ -112,6 +127,8 @@ impl Conferences {
     /// A conference has ended or is broken off. Says whether it wasn't known.
     pub fn end(&mut self, conference: u32) -> bool
         ensures users { SameUsers self.old self.new }
+        ensures held { SameHeld self.old self.new }
+        ensures received { SameReceived self.old self.new }
     {
         match self.items.get_mut(&conference) {
             Some(item) => !mem::replace(&mut item.is_over, true),
@@ -126,6 +143,7 @@ impl Conferences {
         ensures others { (c u : ℕ) → (nat_eq conference c && nat_eq user u) ≡ false
             → is_removed self.new c u ≡ is_removed self.old c u }
         ensures left { OnErr result (SameUsers self.old self.new) }
+        ensures held { SameHeld self.old self.new }
     {
         if self.is_banned(conference, user) {
             return Ok(());
@@ -144,6 +162,7 @@ impl Conferences {
         ensures took { is_removed self.new conference user ≡ false }
         ensures others { (c u : ℕ) → (nat_eq conference c && nat_eq user u) ≡ false
             → is_removed self.new c u ≡ is_removed self.old c u }
+        ensures held { SameHeld self.old self.new }
     {
         if let Some(item) = self.items.get_mut(&conference) {
             let_in_again(&mut item.removed, user);
@@ -157,6 +176,68 @@ impl Conferences {
         match self.items.get(&conference) {
             Some(item) => item.removed.contains(&user),
             None => false,
+        }
+    }
+
+    /// A conference is held: no event of it is to be taken.
+    pub fn hold(&mut self, conference: u32)
+        ensures took { (c : Known) → conference_at self.old conference ≡ Some c
+            → is_held self.new conference ≡ true }
+        ensures others { (c : ℕ) → nat_eq conference c ≡ false
+            → is_held self.new c ≡ is_held self.old c }
+        ensures users { SameUsers self.old self.new }
+    {
+        if let Some(item) = self.items.get_mut(&conference) {
+            item.is_held = true;
+        }
+    }
+
+    /// It isn't held any more.
+    pub fn let_go(&mut self, conference: u32)
+        ensures took { is_held self.new conference ≡ false }
+        ensures others { (c : ℕ) → nat_eq conference c ≡ false
+            → is_held self.new c ≡ is_held self.old c }
+        ensures users { SameUsers self.old self.new }
+    {
+        if let Some(item) = self.items.get_mut(&conference) {
+            item.is_held = false;
+        }
+    }
+
+    /// Whether a conference is held.
+    pub fn is_held(&self, conference: u32) -> bool
+        ensures value { result ≡ is_held self.now conference }
+    {
+        match self.items.get(&conference) {
+            Some(item) => item.is_held,
+            None => false,
+        }
+    }
+
+    /// The members of a conference have sent so many bytes more. Gives how many megabytes they have sent, in hundreds,
+    /// where that is a hundred more than before.
+    pub fn receive(&mut self, conference: u32, bytes: u64) -> Option<u64>
+        ensures counted { (c : Known) → conference_at self.old conference ≡ Some c
+            → received self.new conference ≡ more_received bytes (received self.old conference) }
+        ensures large { MatchOption result
+            (NoneIsReached (received self.old conference) (received self.new conference))
+            (IsReached (received self.old conference) (received self.new conference)) }
+        ensures others { (c : ℕ) → nat_eq conference c ≡ false
+            → received self.new c ≡ received self.old c }
+        ensures users { SameUsers self.old self.new }
+        ensures held { SameHeld self.old self.new }
+    {
+        let item = self.items.get_mut(&conference)?;
+        let before = item.received;
+        item.received = before.saturating_add(bytes);
+        reached(before, item.received)
+    }
+
+    /// The slots of the listeners of a conference.
+    pub fn listeners(&self, conference: u32) -> &[usize] {
+        match self.items.get(&conference) {
+            Some(item) => item.listeners.as_slice(),
+            None => &[],
         }
     }
 
@@ -175,4 +256,16 @@ fn let_in_again(removed: &mut Vec<u16>, user: u16)
         → list_any (nat_eq u) removed.new.items ≡ list_any (nat_eq u) removed.old.items }
 {
     removed.retain(|other| *other != user);
+}
+
+/// How many megabytes so many bytes are, in hundreds, where that is a hundred more than those before are.
+fn reached(before: u64, after: u64) -> Option<u64>
+    ensures value { MatchOption result (NoneIsReached before after) (IsReached before after) }
+{
+    let hundreds = after / LARGE_BYTES;
+    if before / LARGE_BYTES < hundreds {
+        Some(hundreds.saturating_mul(LARGE_MEGABYTES))
+    } else {
+        None
+    }
 }

@@ -1,21 +1,25 @@
 //! Sockets and who is at them, without their meetings: where is listened, who waits at a door, and what the log is told.
 
-ghost use Rattle.std.specs.Prelude.{◌≡◌, ◌≢◌, ◌⊎◌, All, IfErr, IfNone, IfOk, IfSome, None, OnErr, OnOk, Some, ℕ, false, max, option_map, true};
+ghost use Rattle.std.specs.Prelude.{◌≡◌, ◌≢◌, ◌≤◌, ◌⊎◌, All, IfErr, IfNone, IfOk, IfSome, None, OnErr, OnOk, Some, ℕ, false, length, max, option_map, true};
 ghost use Rattle.floor_sockets.specs.Runs.{BecomeRole, Does, Fail, NothingCame, Shut};
 ghost use Rattle.floor_sockets.specs.Sockets.{life_at};
 ghost use Rattle.floor_sockets.specs.declared.role.Role.TheVariants.{MemberByDoor};
+ghost use Rattle.floor_connections.specs.Announced.{announcing, own_len};
 ghost use Rattle.floor_connections.specs.Asked.{accepts, is_ending};
+ghost use Rattle.floor_connections.specs.Conferences.{SameHeld};
+ghost use Rattle.floor_connections.specs.Log.{GoesOn, IsTold, Receives, SameLog};
 ghost use Rattle.floor_connections.specs.Ports.{HasPort, IsAdded, KeepsPorts};
+ghost use Rattle.floor_connections.specs.Received.{SameReceived};
 ghost use Rattle.floor_connections.specs.Steps.{Steps};
-ghost use Rattle.floor_connections.specs.Table.{IsWanted, OthersStay, Same, ended, is_at_door, listener_of, peer_of, shut_deed, socket_at, turned, wanted};
+ghost use Rattle.floor_connections.specs.Table.{IsWanted, OthersStay, Same, announced_of, ended, is_at_door, is_member, joined, listener_of, peer_of, reads_nobody, shut_deed, socket_at, turned, wanted};
 ghost use Rattle.floor_connections.specs.declared.departure.Departure.TheVariants as departures;
 ghost use Rattle.floor_connections.specs.declared.place.Peer.{Peer as Guest};
 ghost use Rattle.floor_connections.specs.declared.place.Place.TheVariants as places;
 ghost use Rattle.floor_connections.specs.declared.refusal.Refusal.TheVariants as refusals;
 ghost use Rattle.floor_connections.specs.declared.table.Listener.{Listener as Where};
-ghost use Rattle.floor_connections.specs.declared.table.Socket.TheVariants as somebody;
 ghost use Rattle.floor_connections.specs.declared.table.Stage.TheVariants as stages;
 
+use crate::announced::Announced;
 use crate::asked::{is_accepting, is_over};
 use crate::conferences::Conferences;
 use crate::deed::Deed;
@@ -46,6 +50,10 @@ pub struct Connections {
     untold: u64,
     /// Members that are to be shut, since nothing is lent to them.
     leaving: VecDeque<usize>,
+    /// Who was named at a door, and waits since its conference is held.
+    pub(crate) waiting: VecDeque<usize>,
+    /// Conferences that aren't held any more, and of which members may have gone meanwhile.
+    pub(crate) parting: VecDeque<u32>,
     /// Who is away, by its connection's number, as far as memory was had for it.
     away: IndexMap<u64, Who>,
     /// How late it is, in microseconds.
@@ -67,6 +75,8 @@ impl Connections {
             entries: VecDeque::new(alloc),
             untold: 0,
             leaving: VecDeque::new(alloc),
+            waiting: VecDeque::new(alloc),
+            parting: VecDeque::new(alloc),
             away: IndexMap::new(alloc),
             time: 0,
         }
@@ -79,6 +89,7 @@ impl Connections {
         ensures time { self.new.time ≡ max self.old.time now }
         ensures table { self.new.table ≡ self.old.table }
         ensures conferences { self.new.conferences ≡ self.old.conferences }
+        ensures log { SameLog self.old self.new }
         ensures steps { Steps self.old.sockets self.new.sockets }
     {
         self.time = self.time.max(now);
@@ -92,6 +103,8 @@ impl Connections {
 
     /// Tells the log. Where memory is refused it is counted.
     pub fn tell(&mut self, entry: Entry)
+        ensures told { IsTold entry self.old self.new }
+        ensures no_fewer { self.old.untold ≤ self.new.untold }
         ensures sockets { self.new.sockets ≡ self.old.sockets }
         ensures table { self.new.table ≡ self.old.table }
         ensures plain { self.new ≡ record self.old {
@@ -123,6 +136,22 @@ impl Connections {
         let untold = self.untold;
         self.untold = 0;
         Some(Entry::Untold(untold))
+    }
+
+    /// So many bytes came of a member of a conference. Where another 100 MB are reached the log is told.
+    pub fn receive(&mut self, conference: u32, count: usize)
+        ensures took { Receives conference count self.old self.new }
+        ensures table { self.new.table ≡ self.old.table }
+        ensures sockets { self.new.sockets ≡ self.old.sockets }
+        ensures held { SameHeld self.old.conferences self.new.conferences }
+    {
+        match self.conferences.receive(conference, count as u64) {
+            Some(megabytes) => self.tell(Entry::Large {
+                conference,
+                megabytes,
+            }),
+            None => {}
+        }
     }
 
     /// Has a place listened on, and gives the listener's number.
@@ -224,6 +253,8 @@ impl Connections {
     /// The ports of a conference's users aren't listened on any more.
     pub fn end_ports(&mut self, conference: u32)
         ensures table { self.new.table ≡ self.old.table }
+        ensures received { SameReceived self.old.conferences self.new.conferences }
+        ensures log { SameLog self.old self.new }
         ensures steps { Steps self.old.sockets self.new.sockets }
     {
         let listeners = self.conferences.take_listeners(conference);
@@ -258,6 +289,7 @@ impl Connections {
     /// A conference is broken off: that is told, once, and its ports aren't listened on any more.
     pub fn break_off(&mut self, conference: u32)
         ensures table { self.new.table ≡ self.old.table }
+        ensures goes_on { GoesOn self.old self.new }
         ensures steps { Steps self.old.sockets self.new.sockets }
     {
         if self.conferences.end(conference) {
@@ -268,6 +300,8 @@ impl Connections {
 
     /// What is to be listened on next, where anything may be.
     pub fn next_wanted(&mut self, is_serving: bool) -> Option<Deed>
+        ensures listens { IfSome result (λ d. reads_nobody d ≡ true) }
+        ensures conferences { self.new.conferences ≡ self.old.conferences }
         ensures steps { Steps self.old.sockets self.new.sockets }
     {
         let listener = self.wanted.pop_front()?;
@@ -373,7 +407,7 @@ impl Connections {
     /// A member's socket, which shares its turns with these.
     pub fn open_member(&mut self, peer: Peer, group: usize) -> Result<usize, Refusal>
         ensures there { IfOk result (λ slot. socket_at self.new.table slot
-            ≡ Some (somebody.Member peer None false)) }
+            ≡ Some (joined peer)) }
         ensures refused { IfErr result (λ why. why ≡ refusals.Memory) }
         ensures conferences { self.new.conferences ≡ self.old.conferences }
         ensures steps { Steps self.old.sockets self.new.sockets }
@@ -382,6 +416,7 @@ impl Connections {
             peer,
             end: None,
             is_leaving: false,
+            announced: Announced::begin(),
         };
         self.open(Role::Member, group, member)
     }
@@ -454,6 +489,7 @@ impl Connections {
 
     /// A member stays, away. Where memory is refused it isn't told when its user is back.
     pub fn note_away(&mut self, number: ConnNo, who: Who)
+        ensures conferences { self.new.conferences ≡ self.old.conferences }
         ensures sockets { self.new.sockets ≡ self.old.sockets }
         ensures table { self.new.table ≡ self.old.table }
     {
@@ -462,6 +498,7 @@ impl Connections {
 
     /// A member that was away has left: who it was, where memory was had for that.
     pub fn forget_away(&mut self, number: ConnNo) -> Option<Who>
+        ensures conferences { self.new.conferences ≡ self.old.conferences }
         ensures sockets { self.new.sockets ≡ self.old.sockets }
         ensures table { self.new.table ≡ self.old.table }
     {
@@ -495,7 +532,7 @@ impl Connections {
     /// Somebody at a door is a member from now on, of a conference that shares its turns.
     pub fn let_in(&mut self, slot: usize, conference: u32)
         ensures here { (peer : Guest) → peer_of (socket_at self.old.table slot) ≡ Some peer
-            → socket_at self.new.table slot ≡ Some (somebody.Member peer None false) }
+            → socket_at self.new.table slot ≡ Some (joined peer) }
         ensures others { OthersStay slot self.old.table self.new.table }
         ensures named { (group : ℕ) × Does (BecomeRole slot MemberByDoor group)
             self.old.sockets self.new.sockets }
@@ -521,12 +558,33 @@ impl Connections {
         self.sockets.fail(slot);
     }
 
+    /// Takes bytes that come next of a member, and gives how many of them are served: all, or those in front of a message
+    /// that is longer than may be.
+    pub fn own_len(&mut self, slot: usize, bytes: &[u8], longest: Option<u32>) -> usize
+        ensures value { result
+            ≡ own_len longest (announced_of (socket_at self.old.table slot)) bytes.now }
+        ensures within { result ≤ length bytes.now }
+        ensures here { announced_of (socket_at self.new.table slot)
+            ≡ announcing longest bytes.now (announced_of (socket_at self.old.table slot)) }
+        ensures members { (k : ℕ) → is_member (socket_at self.new.table k)
+            ≡ is_member (socket_at self.old.table k) }
+        ensures others { OthersStay slot self.old.table self.new.table }
+        ensures plain { self.new ≡ record self.old { table = self.new.table } }
+    {
+        match longest {
+            Some(longest) => self.table.pass(slot, bytes, longest),
+            None => bytes.len(),
+        }
+    }
+
     /// A member's socket was read to its end, which was so.
     pub fn end_reading(&mut self, slot: usize, departure: Departure)
         ensures here { socket_at self.new.table slot
             ≡ option_map (ended departure) (socket_at self.old.table slot) }
         ensures others { OthersStay slot self.old.table self.new.table }
         ensures read { Does (NothingCame slot) self.old.sockets self.new.sockets }
+        ensures conferences { self.new.conferences ≡ self.old.conferences }
+        ensures log { SameLog self.old self.new }
         ensures steps { Steps self.old.sockets self.new.sockets }
     {
         self.table.end(slot, departure);
@@ -567,6 +625,7 @@ impl Connections {
     /// Who is to be shut next, since nothing was lent to it, once whoever else is due was shut: so what their leaves tell
     /// it is written first.
     pub fn next_leaving(&mut self) -> Option<usize>
+        ensures conferences { self.new.conferences ≡ self.old.conferences }
         ensures sockets { self.new.sockets ≡ self.old.sockets }
     {
         if self.leaving.is_empty() || self.has_due() {
@@ -628,6 +687,7 @@ impl Connections {
         ensures gone { socket_at self.new.table slot ≡ None }
         ensures others { OthersStay slot self.old.table self.new.table }
         ensures shut { Does (Shut slot) self.old.sockets self.new.sockets }
+        ensures conferences { self.new.conferences ≡ self.old.conferences }
         ensures steps { Steps self.old.sockets self.new.sockets }
     {
         self.table.remove(slot);

@@ -15,6 +15,8 @@ pub enum Departure {
     Reset,
     /// The hub refused its bytes or a message.
     Refused(HubRefusal),
+    /// It began a message that is longer than the server takes.
+    TooLong,
     /// It was cut, since it had more than 1,024 messages not acknowledged.
     Slow,
     /// Its conference was closed.
@@ -37,6 +39,7 @@ impl Departure {
             Departure::Reset | Departure::InsideMessage => true,
             Departure::EndOfStream => is_for_all,
             Departure::Refused(_)
+            | Departure::TooLong
             | Departure::Slow
             | Departure::Closed
             | Departure::BrokenOff
@@ -54,6 +57,7 @@ impl Departure {
             Departure::InsideMessage => "InsideMessage",
             Departure::Reset => "Reset",
             Departure::Refused(refusal) => refusal.name(),
+            Departure::TooLong => "TooLong",
             Departure::Slow => "Slow",
             Departure::Closed => "Closed",
             Departure::BrokenOff => "BrokenOff",

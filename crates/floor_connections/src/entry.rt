@@ -31,6 +31,11 @@ pub enum Entry {
     Forgotten {
         conference: u32,
     },
+    /// The members of a conference have sent so many megabytes, in hundreds: a hundred more than before.
+    Large {
+        conference: u32,
+        megabytes: u64,
+    },
     /// A port is listened on.
     Listens(Place),
     /// A port can't be listened on.

@@ -5,6 +5,7 @@
 //! says what is to be done.
 #![tactic(auto)]
 
+mod announced;
 mod asked;
 mod clients;
 mod conferences;
@@ -12,10 +13,12 @@ mod connections;
 mod deed;
 mod departure;
 mod entry;
+mod holding;
 mod place;
 mod refusal;
 mod table;
 
+pub use announced::Announced;
 pub use asked::{is_accepting, is_over, is_reading, is_shutting, is_writing};
 pub use conferences::Conferences;
 pub use connections::Connections;
@@ -24,4 +27,4 @@ pub use departure::Departure;
 pub use entry::{Entry, Who};
 pub use place::{Peer, Place};
 pub use refusal::Refusal;
-pub use table::{Listener, Socket, Stage, Table};
+pub use table::{Listener, Named, Socket, Stage, Table};

@@ -1,19 +1,22 @@
 //! Who is at which socket.
 
-ghost use Rattle.std.specs.Prelude.{◌≡◌, ◌≢◌, ◌<◌, ◌++◌, ℕ, None, OnErr, OnOk, Some, if◌then◌else◌, count_by, false, is_some, length, option_map, slice_index_or};
+ghost use Rattle.std.specs.Prelude.{◌≡◌, ◌≢◌, ◌<◌, ◌≤◌, ◌++◌, ℕ, None, OnErr, OnOk, Some, if◌then◌else◌, count_by, false, is_some, length, option_map, slice_index_or};
 ghost use Rattle.floor_doors.specs.declared.newcomer.Verdict.TheVariants as verdict;
 ghost use Rattle.floor_doors.specs.declared.refusal.DoorRefusal.TheVariants as refusal;
 ghost use Rattle.floor_doors.specs.Follows.{follows};
 ghost use Rattle.floor_doors.specs.Newcomer.{Newcomer as Awaited};
 ghost use Rattle.floor_proxy.specs.Header.{proxy};
-ghost use Rattle.floor_connections.specs.Table.{OthersStay, Same, client_of, ended, is_at_door, is_member, leaving, listener_of, members_in, peer_of, socket_at, staged, turned};
+ghost use Rattle.floor_connections.specs.Announced.{has_too_long, own_len};
+ghost use Rattle.floor_connections.specs.Table.{OthersStay, Same, announced_of, client_of, ended, heard, is_at_door, is_gone, is_member, joined, leaving, left, listener_of, members_in, peer_of, socket_at, staged, turned, waiting_of};
 ghost use Rattle.floor_connections.specs.declared.place.Peer.{Peer as Who};
-ghost use Rattle.floor_connections.specs.declared.table.Socket.TheVariants.{AtDoor, Member};
+ghost use Rattle.floor_connections.specs.declared.table.Socket.TheVariants.{AtDoor, Waiting};
 
+use crate::announced::Announced;
 use crate::departure::Departure;
 use crate::place::{Peer, Place};
 use floor_doors::{Newcomer, Verdict};
 use std::alloc::{AllocError, Global};
+use std::mem;
 
 /// How far a listener is.
 #[derive(Clone, Copy, Debug, PartialEq, Eq)]
@@ -36,6 +39,15 @@ pub struct Listener {
     pub stage: Stage,
 }
 
+/// Who somebody at a door is, and what came of it last: behind so many of these bytes stand its own.
+#[derive(Drop)]
+pub struct Named {
+    pub conference: u32,
+    pub user: u16,
+    pub bytes: Vec<u8>,
+    pub at: usize,
+}
+
 /// Who is at a socket.
 #[derive(Drop)]
 pub enum Socket {
@@ -50,11 +62,23 @@ pub enum Socket {
     Turned,
     /// A control client, by this place. What came of it and what is to be written to it is its caller's.
     Client(Place),
-    /// A member, how its reading ended, where it has, and whether it waits to be shut, since nothing is lent to it.
+    /// Somebody who was named at a door, and joins once its conference isn't held.
+    Waiting {
+        peer: Peer,
+        named: Named,
+    },
+    /// A member whose socket was shut, so ended, and that leaves once its conference isn't held.
+    Gone {
+        peer: Peer,
+        end: Option<Departure>,
+    },
+    /// A member, how its reading ended, where it has, whether it waits to be shut, since nothing is lent to it, and where in
+    /// its message the next byte of it stands.
     Member {
         peer: Peer,
         end: Option<Departure>,
         is_leaving: bool,
+        announced: Announced,
     },
 }
 
@@ -126,6 +150,8 @@ impl Table {
                     Socket::AtDoor { .. }
                     | Socket::Turned
                     | Socket::Client(_)
+                    | Socket::Waiting { .. }
+                    | Socket::Gone { .. }
                     | Socket::Member { .. },
                 )
                 | None,
@@ -157,6 +183,8 @@ impl Table {
                 Socket::AtDoor { .. }
                 | Socket::Turned
                 | Socket::Client(_)
+                | Socket::Waiting { .. }
+                | Socket::Gone { .. }
                 | Socket::Member { .. } => {}
             }
         }
@@ -168,6 +196,8 @@ impl Table {
     {
         match self.slots.get(slot) {
             Some(Some(Socket::AtDoor { peer, .. })) => Some(*peer),
+            Some(Some(Socket::Waiting { peer, .. })) => Some(*peer),
+            Some(Some(Socket::Gone { peer, .. })) => Some(*peer),
             Some(Some(Socket::Member { peer, .. })) => Some(*peer),
             Some(Some(Socket::Listener(_) | Socket::Turned | Socket::Client(_)) | None) | None =>
                 None,
@@ -192,8 +222,12 @@ impl Table {
         match place {
             Some(socket) => match socket {
                 Socket::AtDoor { newcomer, .. } => newcomer.came(bytes),
-                Socket::Listener(_) | Socket::Turned | Socket::Client(_) | Socket::Member { .. } =>
-                    Verdict::LetGo,
+                Socket::Listener(_)
+                | Socket::Turned
+                | Socket::Client(_)
+                | Socket::Waiting { .. }
+                | Socket::Gone { .. }
+                | Socket::Member { .. } => Verdict::LetGo,
             },
             None => Verdict::LetGo,
         }
@@ -211,6 +245,8 @@ impl Table {
                     Socket::Listener(_)
                     | Socket::Turned
                     | Socket::Client(_)
+                    | Socket::Waiting { .. }
+                    | Socket::Gone { .. }
                     | Socket::Member { .. },
                 )
                 | None,
@@ -222,7 +258,7 @@ impl Table {
     /// Somebody has become a member.
     pub fn let_in(&mut self, slot: usize)
         ensures here { (peer : Who) → peer_of (socket_at self.old slot) ≡ Some peer
-            → socket_at self.new slot ≡ Some (Member peer None false) }
+            → socket_at self.new slot ≡ Some (joined peer) }
         ensures none { peer_of (socket_at self.old slot) ≡ None → Same self.old self.new }
         ensures others { OthersStay slot self.old self.new }
     {
@@ -232,6 +268,7 @@ impl Table {
                     peer,
                     end: None,
                     is_leaving: false,
+                    announced: Announced::begin(),
                 });
             }
         }
@@ -248,7 +285,56 @@ impl Table {
                     Socket::Listener(_)
                     | Socket::AtDoor { .. }
                     | Socket::Turned
-                    | Socket::Client(_),
+                    | Socket::Client(_)
+                    | Socket::Waiting { .. }
+                    | Socket::Gone { .. },
+                )
+                | None,
+            )
+            | None => false,
+        }
+    }
+
+    /// Takes bytes that come next of a member, and gives how many of them are served: all in front of the first by which a
+    /// message says that it has more than `longest` bytes. Of who isn't a member all are.
+    pub fn pass(&mut self, slot: usize, bytes: &[u8], longest: u32) -> usize
+        ensures value { result ≡ own_len (Some longest) (announced_of (socket_at self.old slot)) bytes.now }
+        ensures within { result ≤ length bytes.now }
+        ensures here { socket_at self.new slot
+            ≡ option_map (heard longest bytes.now) (socket_at self.old slot) }
+        ensures others { OthersStay slot self.old self.new }
+    {
+        let Some(place) = self.slots.get_mut(slot) else {
+            return bytes.len();
+        };
+        match place {
+            Some(socket) => match socket {
+                Socket::Member { announced, .. } => announced.pass(bytes, longest),
+                Socket::Listener(_)
+                | Socket::AtDoor { .. }
+                | Socket::Turned
+                | Socket::Client(_)
+                | Socket::Waiting { .. }
+                | Socket::Gone { .. } => bytes.len(),
+            },
+            None => bytes.len(),
+        }
+    }
+
+    /// Whether a message of a member has said that it is longer than may be.
+    pub fn is_too_long(&self, slot: usize) -> bool
+        ensures value { result ≡ has_too_long (announced_of (socket_at self.now slot)) }
+    {
+        match self.slots.get(slot) {
+            Some(Some(Socket::Member { announced, .. })) => announced.is_too_long(),
+            Some(
+                Some(
+                    Socket::Listener(_)
+                    | Socket::AtDoor { .. }
+                    | Socket::Turned
+                    | Socket::Client(_)
+                    | Socket::Waiting { .. }
+                    | Socket::Gone { .. },
                 )
                 | None,
             )
@@ -271,8 +357,12 @@ impl Table {
                     *is_leaving = leaves;
                     is_new
                 }
-                Socket::Listener(_) | Socket::AtDoor { .. } | Socket::Turned | Socket::Client(_) =>
-                    false,
+                Socket::Listener(_)
+                | Socket::AtDoor { .. }
+                | Socket::Turned
+                | Socket::Client(_)
+                | Socket::Waiting { .. }
+                | Socket::Gone { .. } => false,
             },
             None => false,
         }
@@ -305,8 +395,12 @@ impl Table {
                         *end = Some(departure);
                     }
                 }
-                Socket::Listener(_) | Socket::AtDoor { .. } | Socket::Turned | Socket::Client(_) =>
-                    {}
+                Socket::Listener(_)
+                | Socket::AtDoor { .. }
+                | Socket::Turned
+                | Socket::Client(_)
+                | Socket::Waiting { .. }
+                | Socket::Gone { .. } => {}
             }
         }
     }
@@ -315,7 +409,115 @@ impl Table {
     pub fn end_of(&self, slot: usize) -> Option<Departure> {
         match self.slots.get(slot) {
             Some(Some(Socket::Member { end, .. })) => *end,
+            Some(Some(Socket::Gone { end, .. })) => *end,
             _ => None,
+        }
+    }
+
+    /// Somebody at a door, or whoever has connected else and wasn't turned away, was named so, and waits.
+    pub fn wait(&mut self, slot: usize, named: Named)
+        ensures here { (peer : Who) → peer_of (socket_at self.old slot) ≡ Some peer
+            → socket_at self.new slot ≡ Some (Waiting peer named) }
+        ensures none { peer_of (socket_at self.old slot) ≡ None → Same self.old self.new }
+        ensures others { OthersStay slot self.old self.new }
+    {
+        if let Some(peer) = self.peer(slot) {
+            if let Some(place) = self.slots.get_mut(slot) {
+                *place = Some(Socket::Waiting { peer, named });
+            }
+        }
+    }
+
+    /// The conference of who was named at a door and waits.
+    pub fn waiting(&self, slot: usize) -> Option<u32>
+        ensures value { result ≡ option_map (λ n. n.conference) (waiting_of (socket_at self.now slot)) }
+    {
+        match self.slots.get(slot) {
+            Some(Some(Socket::Waiting { named, .. })) => Some(named.conference),
+            Some(
+                Some(
+                    Socket::Listener(_)
+                    | Socket::AtDoor { .. }
+                    | Socket::Turned
+                    | Socket::Client(_)
+                    | Socket::Gone { .. }
+                    | Socket::Member { .. },
+                )
+                | None,
+            )
+            | None => None,
+        }
+    }
+
+    /// Who was named and waits doesn't any more: it is taken for a member, and who it is and what came of it is given.
+    pub fn take_waiting(&mut self, slot: usize) -> Option<Named>
+        ensures value { result ≡ waiting_of (socket_at self.old slot) }
+        ensures peer { peer_of (socket_at self.new slot) ≡ peer_of (socket_at self.old slot) }
+        ensures others { OthersStay slot self.old self.new }
+    {
+        match self.waiting(slot) {
+            Some(_) => {}
+            None => return None,
+        }
+        let peer = self.peer(slot)?;
+        let place = self.slots.get_mut(slot)?;
+        let member = Socket::Member {
+            peer,
+            end: None,
+            is_leaving: false,
+            announced: Announced::begin(),
+        };
+        match mem::replace(place, Some(member)) {
+            Some(Socket::Waiting { named, .. }) => Some(named),
+            _ => None,
+        }
+    }
+
+    /// The socket of a member was shut, and the member hasn't left yet.
+    pub fn go(&mut self, slot: usize)
+        ensures here { socket_at self.new slot ≡ option_map left (socket_at self.old slot) }
+        ensures others { OthersStay slot self.old self.new }
+    {
+        let Some(place) = self.slots.get_mut(slot) else {
+            return;
+        };
+        if let Some(socket) = place {
+            match socket {
+                Socket::Member { peer, end, .. } => {
+                    let gone = Socket::Gone {
+                        peer: *peer,
+                        end: *end,
+                    };
+                    *socket = gone;
+                }
+                Socket::Listener(_)
+                | Socket::AtDoor { .. }
+                | Socket::Turned
+                | Socket::Client(_)
+                | Socket::Waiting { .. }
+                | Socket::Gone { .. } => {}
+            }
+        }
+    }
+
+    /// Whether there is a member whose socket was shut.
+    pub fn is_gone(&self, slot: usize) -> bool
+        ensures value { result ≡ is_gone (socket_at self.now slot) }
+    {
+        match self.slots.get(slot) {
+            Some(Some(Socket::Gone { .. })) => true,
+            Some(
+                Some(
+                    Socket::Listener(_)
+                    | Socket::AtDoor { .. }
+                    | Socket::Turned
+                    | Socket::Client(_)
+                    | Socket::Waiting { .. }
+                    | Socket::Member { .. },
+                )
+                | None,
+            )
+            | None => false,
         }
     }
 
@@ -330,6 +532,8 @@ impl Table {
                     Socket::Listener(_)
                     | Socket::Turned
                     | Socket::Client(_)
+                    | Socket::Waiting { .. }
+                    | Socket::Gone { .. }
                     | Socket::Member { .. },
                 )
                 | None,
@@ -349,6 +553,8 @@ impl Table {
                     Socket::Listener(_)
                     | Socket::AtDoor { .. }
                     | Socket::Turned
+                    | Socket::Waiting { .. }
+                    | Socket::Gone { .. }
                     | Socket::Member { .. },
                 )
                 | None,

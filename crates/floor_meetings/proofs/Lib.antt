@@ -3,3 +3,4 @@ pub mod Running
 pub mod Living
 pub mod Taking
 pub mod Numbers
+pub mod Gathering

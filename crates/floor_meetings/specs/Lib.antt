@@ -3,6 +3,7 @@ pub mod Names
 pub mod Members
 pub mod Meetings
 pub mod Calls
+pub mod Gathering
 pub mod Joined
 pub mod Runs
 pub mod Laws

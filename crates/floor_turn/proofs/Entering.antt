@@ -23,7 +23,7 @@ use Rattle.floor_connections.specs.declared.table.Listener.{Listener}
 use Rattle.floor_connections.specs.declared.table.Socket.{Socket}
 use Rattle.floor_connections.specs.declared.table.Socket.TheVariants as socket
 use Rattle.floor_connections.specs.declared.table.Table.{Table}
-use Rattle.floor_connections.specs.Table.{OthersStay, client_of, ended, is_at_door, is_member, peer_of, socket_at, turned}
+use Rattle.floor_connections.specs.Table.{OthersStay, announced_of, client_of, ended, is_at_door, is_member, peer_of, socket_at, turned}
 use Rattle.floor_meetings.specs.declared.meetings.Meetings.{Meetings}
 use Rattle.floor_proxy.specs.declared.header.NamedBy.{NamedBy}
 use Rattle.floor_turn.specs.Entering.{IsDeclined}
@@ -34,7 +34,7 @@ pub not_there : (o : Option Room) → ((r : Room) → o ≡ Some r → ⊥) → 
 not_there None none = refl
 not_there (Some r) none = absurd (none r refl)
 
-no_ok : {X : Type 0} (x : X) (e : HubRefusal) → ◌≡◌ {A = Result X HubRefusal} (Ok x) (Err e) → ⊥
+pub no_ok : {X : Type 0} (x : X) (e : HubRefusal) → ◌≡◌ {A = Result X HubRefusal} (Ok x) (Err e) → ⊥
 no_ok x e same = cc
 
 -- of what was found there is a room
@@ -56,11 +56,28 @@ member_ended d (Some (socket.Listener l)) = refl
 member_ended d (Some (socket.AtDoor peer newcomer)) = refl
 member_ended d (Some socket.Turned) = refl
 member_ended d (Some (socket.Client place)) = refl
-member_ended d (Some (socket.Member peer end is_leaving)) = refl
+member_ended d (Some (socket.Waiting peer named)) = refl
+member_ended d (Some (socket.Gone peer end)) = refl
+member_ended d (Some (socket.Member peer end is_leaving announced)) = refl
 
 pub kept_members : (slot : ℕ) (d : Departure) (old new : Table) → socket_at new slot ≡ option_map (ended d) (socket_at old slot) → OthersStay slot old new → (k : ℕ) → is_member (socket_at new k) ≡ is_member (socket_at old k)
 kept_members slot d old new here others k =
     elim (eqb_tells slot k) [ inl t ↦ subst (λ (j : ℕ). is_member (socket_at new j) ≡ is_member (socket_at old j)) t.1 (ap is_member here ∙ member_ended d (socket_at old slot)) | inr t ↦ ap is_member (others k t.0) ]
+
+-- and so is where its next byte stands
+announced_ended : (d : Departure) (o : Option Socket) → announced_of (option_map (ended d) o) ≡ announced_of o
+announced_ended d None = refl
+announced_ended d (Some (socket.Listener l)) = refl
+announced_ended d (Some (socket.AtDoor peer newcomer)) = refl
+announced_ended d (Some socket.Turned) = refl
+announced_ended d (Some (socket.Client place)) = refl
+announced_ended d (Some (socket.Waiting peer named)) = refl
+announced_ended d (Some (socket.Gone peer end)) = refl
+announced_ended d (Some (socket.Member peer end is_leaving announced)) = refl
+
+pub kept_announced : (slot : ℕ) (d : Departure) (old new : Table) → socket_at new slot ≡ option_map (ended d) (socket_at old slot) → OthersStay slot old new → (k : ℕ) → announced_of (socket_at new k) ≡ announced_of (socket_at old k)
+kept_announced slot d old new here others k =
+    elim (eqb_tells slot k) [ inl t ↦ subst (λ (j : ℕ). announced_of (socket_at new j) ≡ announced_of (socket_at old j)) t.1 (ap announced_of here ∙ announced_ended d (socket_at old slot)) | inr t ↦ ap announced_of (others k t.0) ]
 
 -- whoever was there and was turned away is
 pub turned_there : (old new : Option Socket) (peer : Peer) → peer_of old ≡ Some peer → new ≡ option_map turned old → new ≡ Some socket.Turned
@@ -74,7 +91,9 @@ door_peer (Some (socket.Listener l)) at = never ((peer : Peer) × (peer_of (Some
 door_peer (Some (socket.AtDoor peer newcomer)) at = (peer, refl)
 door_peer (Some socket.Turned) at = never ((peer : Peer) × (peer_of (Some socket.Turned) ≡ Some peer)) at
 door_peer (Some (socket.Client place)) at = never ((peer : Peer) × (peer_of (Some (socket.Client place)) ≡ Some peer)) at
-door_peer (Some (socket.Member peer end is_leaving)) at = never ((other : Peer) × (peer_of (Some (socket.Member peer end is_leaving)) ≡ Some other)) at
+door_peer (Some (socket.Waiting peer named)) at = never ((other : Peer) × (peer_of (Some (socket.Waiting peer named)) ≡ Some other)) at
+door_peer (Some (socket.Gone peer end)) at = never ((other : Peer) × (peer_of (Some (socket.Gone peer end)) ≡ Some other)) at
+door_peer (Some (socket.Member peer end is_leaving announced)) at = never ((other : Peer) × (peer_of (Some (socket.Member peer end is_leaving announced)) ≡ Some other)) at
 
 -- what is said of a header comes true, unless memory was refused for it
 pub told : (v : Verdict) (before : ℕ) (r : Result ProxyRead ProxyRefusal) → (v ≢ Refuse Memory → v ≡ follows before r) → (v ≡ follows before r) ⊎ (v ≡ Refuse Memory)

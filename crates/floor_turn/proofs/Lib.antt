@@ -5,4 +5,6 @@ pub mod Wanted
 pub mod Resting
 pub mod Ending
 pub mod Entering
+pub mod Heard
 pub mod Deeds
+pub mod Sparing

@@ -11,17 +11,20 @@ use Rattle.floor_meetings.specs.declared.refusal.JoinRefusal.{JoinRefusal}
 use Rattle.floor_meetings.specs.declared.refusal.JoinRefusal.TheVariants.{UserConnections}
 use Rattle.floor_meetings.specs.Joined.{HasPlaces, IsRefused, Joins, is_late, of_user}
 use Rattle.floor_meetings.specs.Meetings.{member_at}
-use Rattle.floor_meetings.specs.Runs.{Came, Does, MakeRoom}
+use Rattle.floor_meetings.specs.Runs.{Does, MakeRoom}
 use Rattle.floor_sockets.specs.Sockets.{life_at}
+use Rattle.floor_connections.specs.declared.announced.Announced.TheVariants.{Before}
+use Rattle.floor_connections.specs.Announced.{announcing, has_too_long, own_of}
 use Rattle.floor_connections.specs.Asked.{is_ending}
-use Rattle.floor_connections.specs.Conferences.{is_removed}
+use Rattle.floor_connections.specs.Conferences.{is_held, is_removed}
 use Rattle.floor_connections.specs.declared.conferences.Conferences.{Conferences}
 use Rattle.floor_connections.specs.declared.connections.Connections.{Connections}
 use Rattle.floor_connections.specs.declared.refusal.Refusal.{Refusal}
 use Rattle.floor_connections.specs.declared.refusal.Refusal.TheVariants.{AtMeeting, Removed}
 use Rattle.floor_connections.specs.declared.table.Socket.TheVariants.{Turned}
-use Rattle.floor_connections.specs.Table.{is_member, socket_at}
+use Rattle.floor_connections.specs.Table.{IsWaiting, is_member, socket_at}
 use Rattle.floor_turn.specs.declared.server.Server.{Server}
+use Rattle.floor_turn.specs.Hearing.{Hears}
 
 -- As many sockets as its configuration lets one user have are this user's in the conference.
 pub record IsFullFor (conference user : ℕ) (m : Meetings) : Type 0 where
@@ -79,12 +82,12 @@ abbrev pub IsDeclined : ℕ → ℕ → ℕ → Conferences → Meetings → Mee
 IsDeclined slot conference user cs old new why =
     (IsTurnedDown slot conference user cs old why × (new ≡ old)) ⊎ IsRefusedLate slot conference user cs old why
 
--- It has joined in the slot, and these bytes came of it then, and are the first; it is at the socket as a member.
+-- It has joined in the slot, and these bytes came of it then, and are the first: what stands in front of a message that is too long is served. It is at the
+-- socket as a member.
 pub record Enters (slot conference user : ℕ) (bytes : List ℕ) (cs : Conferences) (old : Meetings) (new : Server) : Type 0 where
   pub between : Meetings
   pub joined : HasJoined slot conference user cs old between
-  pub answer : Result Bool HubRefusal
-  pub heard : Does (Came slot bytes answer) between new.meetings
+  pub heard : Hears slot (own_of new.longest (Some (Before 2)) bytes) (has_too_long (announcing new.longest bytes (Some (Before 2)))) between new.meetings
   pub member : is_member (socket_at new.connections.table slot) ≡ true
 
 -- Nobody is at the socket any more but who is to be shut, at once.
@@ -96,3 +99,10 @@ pub record IsTurnedAway (slot : ℕ) (c : Connections) : Type 0 where
 abbrev pub EntersOrNot : ℕ → ℕ → ℕ → List ℕ → Conferences → Meetings → Server → Type 0
 EntersOrNot slot conference user bytes cs old new =
     Enters slot conference user bytes cs old new ⊎ ((why : Refusal) × IsDeclined slot conference user cs old new.meetings why × IsTurnedAway slot new.connections)
+
+-- It has joined, or it was declined and turned away. Where its conference is held nothing has changed of any meeting: it waits, with these bytes as its
+-- first, or was turned away, since memory was refused.
+abbrev pub EntersOrWaits : ℕ → ℕ → ℕ → List ℕ → Conferences → Meetings → Server → Type 0
+EntersOrWaits slot conference user bytes cs old new =
+    ((is_held cs conference ≡ false) × EntersOrNot slot conference user bytes cs old new)
+    ⊎ ((is_held cs conference ≡ true) × (new.meetings ≡ old) × (IsWaiting slot conference user bytes new.connections.table ⊎ IsTurnedAway slot new.connections))

@@ -2,9 +2,11 @@
 pub mod Course
 pub mod Due
 pub mod Moves
+pub mod Hearing
 pub mod Entering
 pub mod Clients
 pub mod Touched
+pub mod Held
 pub mod Over
 pub mod Runs
 pub mod Laws

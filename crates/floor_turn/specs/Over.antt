@@ -5,14 +5,20 @@ use Rattle.floor_sockets.specs.declared.life.Deed.TheVariants as asked
 use Rattle.floor_sockets.specs.declared.life.Life.{Life}
 use Rattle.floor_sockets.specs.Laws.{IsEarly, is_shut}
 use Rattle.floor_sockets.specs.Life.{is_shutting}
-use Rattle.floor_sockets.specs.Runs.{Does, End, Fail}
+use Rattle.floor_sockets.specs.Runs.{Does, End, Fail, Readable, Took}
 use Rattle.floor_sockets.specs.Sockets.{Sockets, later, life_at}
+use Rattle.floor_connections.specs.Asked.{is_over}
 use Rattle.floor_connections.specs.declared.connections.Connections.{Connections}
 use Rattle.floor_connections.specs.declared.deed.Deed.{Deed}
 use Rattle.floor_connections.specs.declared.deed.Deed.TheVariants as deed
 use Rattle.floor_connections.specs.Steps.{Steps, StepsBy}
 use Rattle.floor_connections.specs.Table.{socket_at}
 use Rattle.floor_turn.specs.declared.server.Server.{Server}
+
+-- A write to the socket failed. One that is to be shut down is shut at once. To any other nothing is lent until it is seen to again, and it is as if the poll told that it may be read, and that its stream ends.
+pub record IsUnwritten (socket : ℕ) (old new : Sockets) : Type 0 where
+  pub over : is_over (life_at old socket) ≡ true → Does (Fail socket) old new
+  pub read : is_over (life_at old socket) ≡ false → (between : Sockets) × Does (Took socket 0 0) old between × Does (Readable socket true) between new
 
 -- Where floor_sockets gave the Shut of a slot: it is handed out as that of a socket or of a listener, or nobody is at the slot any more, of which the system didn't know.
 abbrev pub IsHandedOut : Option Asked → Option Deed → Connections → Type 0

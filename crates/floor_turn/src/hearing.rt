@@ -1,25 +1,33 @@
 //! What is read of sockets.
 
-ghost use Rattle.std.specs.Prelude.{◌≡◌, ◌⊎◌, ◌++◌, ◌-◌, [], Bool, Err, MatchOption, None, Ok, Result, Some, drop, false, length, true, ℕ};
+ghost use Rattle.std.specs.Prelude.{◌≡◌, ◌≤◌, ◌&&◌, ◌⊎◌, ◌++◌, ◌-◌, [], Bool, Err, MatchOption, None, Ok, Result, Some, drop, false, length, take, true, ℕ};
 ghost use Rattle.floor_hub.specs.declared.refusal.HubRefusal.{HubRefusal as Refused};
-ghost use Rattle.floor_meetings.specs.Calls.{Comes, Ends, Fails};
+ghost use Rattle.floor_meetings.specs.Calls.{Ends, Fails};
 ghost use Rattle.floor_doors.specs.Newcomer.{Newcomer as Awaited};
 ghost use Rattle.floor_doors.specs.declared.newcomer.Verdict.TheVariants as verdicts;
 ghost use Rattle.floor_doors.specs.declared.refusal.DoorRefusal.{DoorRefusal as Why};
 ghost use Rattle.floor_meetings.specs.Meetings.{member_at};
-ghost use Rattle.floor_meetings.specs.Runs.{Came, Does};
+ghost use Rattle.floor_meetings.specs.Runs.{Came, Does, Ended};
+ghost use Rattle.floor_meetings.specs.declared.members.Member.{Member as Known};
 ghost use Rattle.floor_proxy.specs.Header.{proxy};
 ghost use Rattle.floor_proxy.specs.declared.header.ProxyRead.TheVariants.{Local, More, Named};
 ghost use Rattle.floor_proxy.specs.declared.refusal.ProxyRefusal.{ProxyRefusal as Wrong};
 ghost use Rattle.floor_sockets.specs.Life.{none_came, worded};
 ghost use Rattle.floor_sockets.specs.Sockets.{Changed, life_at};
+ghost use Rattle.floor_connections.specs.Announced.{announcing, has_too_long, own_of};
+ghost use Rattle.floor_connections.specs.declared.announced.Announced.TheVariants.{Before};
+ghost use Rattle.floor_connections.specs.Log.{GoesOn, IsCounted, Receives};
+ghost use Rattle.floor_turn.specs.Hearing.{Hears, is_served};
 ghost use Rattle.floor_connections.specs.Asked.{reads};
 ghost use Rattle.floor_connections.specs.Steps.{Steps};
-ghost use Rattle.floor_connections.specs.Table.{is_at_door, is_member, listener_of, peer_of, socket_at};
+ghost use Rattle.floor_connections.specs.Table.{announced_of, is_at_door, is_member, listener_of, peer_of, socket_at};
 ghost use Rattle.floor_connections.specs.declared.place.Peer.{Peer as Guest};
 ghost use Rattle.floor_connections.specs.declared.table.Socket.TheVariants.{AtDoor};
 ghost use Rattle.floor_connections.specs.declared.table.Listener.{Listener as Where};
-ghost use Rattle.floor_turn.specs.Entering.{EntersOrNot, IsTurnedAway};
+ghost use Rattle.floor_turn.specs.Entering.{EntersOrNot, EntersOrWaits, IsTurnedAway};
+ghost use Rattle.floor_connections.specs.Conferences.{is_held};
+ghost use Rattle.floor_connections.specs.declared.conferences.Conferences.{Conferences as Held};
+ghost use Rattle.floor_turn.specs.Held.{MovesFree, is_held_for};
 ghost use Rattle.floor_turn.specs.Moves.{Moves, nothing_taken};
 
 use crate::meeting::{broken_at, end_of_stream, touched_at};
@@ -46,19 +54,26 @@ impl Server {
         }
     }
 
-    /// Bytes came from a socket. Of a stream that doesn't end fewer than `MAX_READ` are all that are there now.
+    /// Bytes came from a socket. Of a stream that doesn't end fewer than `MAX_READ` are all that are there now. They are
+    /// counted as its conference's; of a message that is longer than may be, and of all behind it, nothing is served.
     pub fn came(&mut self, socket: usize, bytes: &[u8], now: u64)
         ensures heard { reads (life_at self.old.connections.sockets socket) ≡ true
             → is_at_door (socket_at self.old.connections.table socket) ≡ false
-            → MatchOption (member_at self.old.meetings socket)
-            (self.new.meetings.hub ≡ self.old.meetings.hub)
-            (λ m. (r : Result Bool Refused) × Comes m.number bytes.now
-            self.old.meetings.hub self.new.meetings.hub r) }
+            → Hears socket (own_of self.old.longest
+            (announced_of (socket_at self.old.connections.table socket)) bytes.now)
+            (has_too_long (announcing self.old.longest bytes.now
+            (announced_of (socket_at self.old.connections.table socket))))
+            self.old.meetings self.new.meetings }
+        ensures counted { (m : Known) → reads (life_at self.old.connections.sockets socket) ≡ true
+            → is_at_door (socket_at self.old.connections.table socket) ≡ false
+            → member_at self.old.meetings socket ≡ Some m
+            → IsCounted m.conference (length bytes.now)
+            self.old.connections self.new.connections }
         ensures entered { (peer : Guest) (n : Awaited) (c u len : ℕ)
             → reads (life_at self.old.connections.sockets socket) ≡ true
             → socket_at self.old.connections.table socket ≡ Some (AtDoor peer n)
             → proxy n.named_by (n.held ++ bytes.now) ≡ Ok (Named c u len)
-            → EntersOrNot socket c u (drop (len - length n.held) bytes.now)
+            → EntersOrWaits socket c u (drop (len - length n.held) bytes.now)
             self.old.connections.conferences self.old.meetings self.new
             ⊎ (IsTurnedAway socket self.new.connections × (self.new.meetings ≡ self.old.meetings)) }
         ensures wrong { (peer : Guest) (n : Awaited) (why : Wrong)
@@ -68,6 +83,9 @@ impl Server {
             → IsTurnedAway socket self.new.connections × (self.new.meetings ≡ self.old.meetings) }
         ensures not_asked { reads (life_at self.old.connections.sockets socket) ≡ false
             → self.new.meetings ≡ self.old.meetings }
+        ensures spares { is_held_for self.old.connections.conferences
+            (member_at self.old.meetings socket) ≡ false
+            → MovesFree self.old.connections.conferences self.old.meetings self.new.meetings }
         ensures moves { Moves nothing_taken self.old.meetings self.new.meetings }
         ensures steps { Steps self.old.connections.sockets self.new.connections.sockets }
     {
@@ -80,6 +98,7 @@ impl Server {
             let verdict = self.connections.table.came_at_door(socket, bytes);
             self.act_on(socket, verdict, bytes);
         } else {
+            count(&mut self.connections, &self.meetings, socket, bytes.len());
             self.hear(socket, bytes, bytes.len());
         }
     }
@@ -107,6 +126,9 @@ impl Server {
             → IsTurnedAway socket self.new.connections × (self.new.meetings ≡ self.old.meetings) }
         ensures not_asked { reads (life_at self.old.connections.sockets socket) ≡ false
             → self.new.meetings ≡ self.old.meetings }
+        ensures spares { is_held_for self.old.connections.conferences
+            (member_at self.old.meetings socket) ≡ false
+            → MovesFree self.old.connections.conferences self.old.meetings self.new.meetings }
         ensures moves { Moves nothing_taken self.old.meetings self.new.meetings }
         ensures steps { Steps self.old.connections.sockets self.new.connections.sockets }
     {
@@ -138,6 +160,9 @@ impl Server {
             → IsTurnedAway socket self.new.connections × (self.new.meetings ≡ self.old.meetings) }
         ensures not_asked { reads (life_at self.old.connections.sockets socket) ≡ false
             → self.new.meetings ≡ self.old.meetings }
+        ensures spares { is_held_for self.old.connections.conferences
+            (member_at self.old.meetings socket) ≡ false
+            → MovesFree self.old.connections.conferences self.old.meetings self.new.meetings }
         ensures moves { Moves nothing_taken self.old.meetings self.new.meetings }
         ensures steps { Steps self.old.connections.sockets self.new.connections.sockets }
     {
@@ -157,11 +182,13 @@ impl Server {
 
     /// A turn of what a member has left over is served.
     pub(crate) fn serve(&mut self, socket: usize)
-        ensures took { MatchOption (member_at self.old.meetings socket)
-            (self.new.meetings.hub ≡ self.old.meetings.hub)
-            (λ m. (r : Result Bool Refused) × Comes m.number []
-            self.old.meetings.hub self.new.meetings.hub r) }
+        ensures took { Hears socket []
+            (has_too_long (announced_of (socket_at self.old.connections.table socket)))
+            self.old.meetings self.new.meetings }
         ensures members { self.new.meetings.members ≡ self.old.meetings.members }
+        ensures spares { is_held_for self.old.connections.conferences
+            (member_at self.old.meetings socket) ≡ false
+            → MovesFree self.old.connections.conferences self.old.meetings self.new.meetings }
         ensures moves { Moves nothing_taken self.old.meetings self.new.meetings }
         ensures steps { Steps self.old.connections.sockets self.new.connections.sockets }
     {
@@ -169,25 +196,63 @@ impl Server {
         let served = self.meetings.serve(socket, self.connections.millis());
         let has_more = note(&mut self.connections, &self.meetings, socket, served);
         self.connections.sockets.served(socket, has_more);
+        self.end_too_long(socket, is_served(served));
     }
 
     /// Bytes came from a member, the last of so many that were read.
     fn hear(&mut self, socket: usize, bytes: &[u8], count: usize)
-        ensures heard { (r : Result Bool Refused) × Does (Came socket bytes.now r)
+        ensures heard { Hears socket (own_of self.old.longest
+            (announced_of (socket_at self.old.connections.table socket)) bytes.now)
+            (has_too_long (announcing self.old.longest bytes.now
+            (announced_of (socket_at self.old.connections.table socket))))
             self.old.meetings self.new.meetings }
         ensures member { is_member (socket_at self.new.connections.table socket)
             ≡ is_member (socket_at self.old.connections.table socket) }
-        ensures took { MatchOption (member_at self.old.meetings socket)
-            (self.new.meetings.hub ≡ self.old.meetings.hub)
-            (λ m. (r : Result Bool Refused) × Comes m.number bytes.now
-            self.old.meetings.hub self.new.meetings.hub r) }
         ensures members { self.new.meetings.members ≡ self.old.meetings.members }
+        ensures goes_on { GoesOn self.old.connections self.new.connections }
+        ensures longest { self.new.longest ≡ self.old.longest }
+        ensures spares { (cs : Held) → is_held_for cs (member_at self.old.meetings socket) ≡ false
+            → MovesFree cs self.old.meetings self.new.meetings }
         ensures moves { Moves nothing_taken self.old.meetings self.new.meetings }
         ensures steps { Steps self.old.connections.sockets self.new.connections.sockets }
     {
-        let served = self.meetings.came(socket, bytes, self.connections.millis());
+        let own = self.connections.own_len(socket, bytes, self.longest);
+        let served = self
+            .meetings
+            .came(socket, front(bytes, own), self.connections.millis());
         let has_more = note(&mut self.connections, &self.meetings, socket, served);
         self.connections.sockets.came(socket, count, has_more);
+        self.end_too_long(socket, is_served(served));
+    }
+
+    /// The stream of a member of which a message is longer than may be is over, once what stands in front of that is served:
+    /// it is shut once what is told is written, at latest after 10 seconds.
+    fn end_too_long(&mut self, socket: usize, is_over: bool)
+        ensures over { (is_over && has_too_long (announced_of
+            (socket_at self.old.connections.table socket))) ≡ true
+            → Does (Ended socket) self.old.meetings self.new.meetings }
+        ensures same { (is_over && has_too_long (announced_of
+            (socket_at self.old.connections.table socket))) ≡ false
+            → self.new.meetings ≡ self.old.meetings }
+        ensures members { self.new.meetings.members ≡ self.old.meetings.members }
+        ensures member { is_member (socket_at self.new.connections.table socket)
+            ≡ is_member (socket_at self.old.connections.table socket) }
+        ensures log { GoesOn self.old.connections self.new.connections }
+        ensures longest { self.new.longest ≡ self.old.longest }
+        ensures spares { (cs : Held) → is_held_for cs (member_at self.old.meetings socket) ≡ false
+            → MovesFree cs self.old.meetings self.new.meetings }
+        ensures moves { Moves nothing_taken self.old.meetings self.new.meetings }
+        ensures steps { Steps self.old.connections.sockets self.new.connections.sockets }
+    {
+        if !is_over {
+            return;
+        }
+        if !self.connections.table.is_too_long(socket) {
+            return;
+        }
+        let now = self.connections.millis();
+        self.meetings.ended(socket, now);
+        self.connections.end_reading(socket, Departure::TooLong);
     }
 
     /// What follows for somebody at a door is done. These bytes came last.
@@ -195,7 +260,7 @@ impl Server {
         ensures entered { (peer : Guest) (c u at : ℕ)
             → peer_of (socket_at self.old.connections.table socket) ≡ Some peer
             → verdict ≡ verdicts.Enter c u at
-            → EntersOrNot socket c u (drop at bytes.now)
+            → EntersOrWaits socket c u (drop at bytes.now)
             self.old.connections.conferences self.old.meetings self.new }
         ensures let_go { (peer : Guest)
             → peer_of (socket_at self.old.connections.table socket) ≡ Some peer
@@ -205,6 +270,8 @@ impl Server {
             → peer_of (socket_at self.old.connections.table socket) ≡ Some peer
             → verdict ≡ verdicts.Refuse why
             → IsTurnedAway socket self.new.connections × (self.new.meetings ≡ self.old.meetings) }
+        ensures spares { MovesFree self.old.connections.conferences
+            self.old.meetings self.new.meetings }
         ensures moves { Moves nothing_taken self.old.meetings self.new.meetings }
         ensures steps { Steps self.old.connections.sockets self.new.connections.sockets }
     {
@@ -214,12 +281,88 @@ impl Server {
                 conference,
                 user,
                 at,
-            } => self.enter(socket, conference, user, bytes, at),
+            } => self.enter_or_wait(socket, conference, user, bytes, at),
             Verdict::LetGo => self.connections.turn_away(socket, None),
             Verdict::Refuse(refusal) => self
                 .connections
                 .turn_away(socket, Some(Refusal::AtDoor(refusal))),
         }
+    }
+
+    /// Somebody at a door is this user: it joins, or waits where its conference is held.
+    fn enter_or_wait(&mut self, socket: usize, conference: u32, user: u16, bytes: &[u8], at: usize)
+        ensures entered { (peer : Guest)
+            → peer_of (socket_at self.old.connections.table socket) ≡ Some peer
+            → EntersOrWaits socket conference user (drop at bytes.now)
+            self.old.connections.conferences self.old.meetings self.new }
+        ensures spares { MovesFree self.old.connections.conferences
+            self.old.meetings self.new.meetings }
+        ensures moves { Moves nothing_taken self.old.meetings self.new.meetings }
+        ensures steps { Steps self.old.connections.sockets self.new.connections.sockets }
+    {
+        if !self.connections.conferences.is_held(conference) {
+            self.enter(socket, conference, user, bytes, at);
+            return;
+        }
+        match self.connections.wait(socket, conference, user, bytes, at) {
+            Ok(()) => {}
+            Err(_) => self.connections.turn_away(socket, Some(Refusal::Memory)),
+        }
+    }
+
+    /// Who waits since longest of those whose conference isn't held any more joins. Says whether there was any.
+    pub(crate) fn see_to_waiting(&mut self) -> bool
+        ensures spares { MovesFree self.old.connections.conferences
+            self.old.meetings self.new.meetings }
+        ensures none { result ≡ false → (self.new.meetings ≡ self.old.meetings)
+            × (self.new.connections.conferences ≡ self.old.connections.conferences) }
+        ensures moves { Moves nothing_taken self.old.meetings self.new.meetings }
+        ensures steps { Steps self.old.connections.sockets self.new.connections.sockets }
+    {
+        let Some(socket) = self.connections.next_waiting() else {
+            return false;
+        };
+        let Some(named) = self.connections.table.take_waiting(socket) else {
+            return true;
+        };
+        self.enter_waiting(socket, &named);
+        true
+    }
+
+    /// Who waited joins as who it is, and what came of it is served.
+    fn enter_waiting(&mut self, socket: usize, named: &floor_connections::Named)
+        ensures spares { is_held self.old.connections.conferences named.now.conference ≡ false
+            → MovesFree self.old.connections.conferences self.old.meetings self.new.meetings }
+        ensures moves { Moves nothing_taken self.old.meetings self.new.meetings }
+        ensures steps { Steps self.old.connections.sockets self.new.connections.sockets }
+    {
+        match self.join(socket, named.conference, named.user) {
+            Ok(()) => self.hear_waiting(socket, named),
+            Err(refusal) => self.connections.turn_away(socket, Some(refusal)),
+        }
+    }
+
+    /// Who waited has joined: what came of it is served, and then it is read.
+    fn hear_waiting(&mut self, socket: usize, named: &floor_connections::Named)
+        ensures heard { (p : Guest)
+            → peer_of (socket_at self.old.connections.table socket) ≡ Some p
+            → (r : Result Bool Refused) × Does (Came socket
+            (own_of self.old.longest (Some (Before 2)) (drop named.now.at named.now.bytes.items)) r)
+            self.old.meetings self.new.meetings }
+        ensures spares { (cs : Held) → is_held_for cs (member_at self.old.meetings socket) ≡ false
+            → MovesFree cs self.old.meetings self.new.meetings }
+        ensures moves { Moves nothing_taken self.old.meetings self.new.meetings }
+        ensures steps { Steps self.old.connections.sockets self.new.connections.sockets }
+    {
+        self.connections.let_in(socket, named.conference);
+        let waited = behind(named.bytes.as_slice(), named.at);
+        // A turn of it is served next: where a message is too long it is ended then.
+        let own = self.connections.own_len(socket, waited, self.longest);
+        let served = self
+            .meetings
+            .came(socket, front(waited, own), self.connections.millis());
+        let _has_more = note(&mut self.connections, &self.meetings, socket, served);
+        self.connections.resume(socket);
     }
 
     /// Somebody at a door is this user: it joins, and what stands behind the header is its own.
@@ -228,6 +371,8 @@ impl Server {
             → peer_of (socket_at self.old.connections.table socket) ≡ Some peer
             → EntersOrNot socket conference user (drop at bytes.now)
             self.old.connections.conferences self.old.meetings self.new }
+        ensures spares { is_held self.old.connections.conferences conference ≡ false
+            → MovesFree self.old.connections.conferences self.old.meetings self.new.meetings }
         ensures moves { Moves nothing_taken self.old.meetings self.new.meetings }
         ensures steps { Steps self.old.connections.sockets self.new.connections.sockets }
     {
@@ -248,6 +393,37 @@ fn behind(bytes: &[u8], at: usize) -> &[u8]
     bytes.get(at..).unwrap_or(&[])
 }
 
+/// The first so many bytes.
+fn front(bytes: &[u8], count: usize) -> &[u8]
+    requires within { count ≤ length bytes.now }
+    ensures value { result.now ≡ take count bytes.now }
+{
+    bytes.get(..count).unwrap_or(&[])
+}
+
+/// Whether no turn is left over, and none was refused.
+fn is_served(served: Result<bool, HubRefusal>) -> bool
+    ensures value { result ≡ is_served served }
+{
+    match served {
+        Ok(has_more) => !has_more,
+        Err(_) => false,
+    }
+}
+
+/// Bytes that came of a member are counted as its conference's.
+fn count(connections: &mut Connections, meetings: &Meetings, socket: usize, count: usize)
+    ensures took { (m : Known) → member_at meetings.now socket ≡ Some m
+        → Receives m.conference count connections.old connections.new }
+    ensures table { connections.new.table ≡ connections.old.table }
+    ensures sockets { connections.new.sockets ≡ connections.old.sockets }
+{
+    match meetings.get(socket) {
+        Some(member) => connections.receive(member.conference, count),
+        None => {}
+    }
+}
+
 /// Says whether a turn has left messages over; where one was refused this is noted.
 fn note(
     connections: &mut Connections,
@@ -257,6 +433,9 @@ fn note(
 ) -> bool
     ensures member { (k : ℕ) → is_member (socket_at connections.new.table k)
         ≡ is_member (socket_at connections.old.table k) }
+    ensures announced { (k : ℕ) → announced_of (socket_at connections.new.table k)
+        ≡ announced_of (socket_at connections.old.table k) }
+    ensures goes_on { GoesOn connections.old connections.new }
     ensures steps { Steps connections.old.sockets connections.new.sockets }
 {
     match served {

@@ -32,15 +32,17 @@ pub(crate) enum Course {
 /// A floor control server: conferences, who is a member of them by a user's port or by a door, what came from each
 /// and what is on its way to it, and whose turn it is.
 ///
-/// - At the start: `new`, `with_grace` or `with_grace_for_all`; `door` for each door, `health` for each port of probes,
-///   `open` for each conference.
+/// - At the start: `new`, `with_grace` or `with_grace_for_all`; `end_longer`; `door` for each door, `health` for each port of probes,
+///   `open` for each conference, or `resume` where it goes on from its journal.
+/// - While events are written down before anybody learns of them: `begin_keeping`, `hold`, `events_from`, `let_go`,
+///   `end_keeping`.
 /// - While it runs: `open`, `port`, `act`, `say`, `remove`, `close`, `forget`; `hub` lends the loop, by which conferences are read, and
 ///   `member` says who is at a socket. `stop` ends it.
 /// - The poll's words: `readable`, `writable` for sockets and `knocked` for listeners, whenever it says so; and `time`.
 /// - Deeds: `next` says what is to be done, one after another until it gives none. Each is done at once, and answered
 ///   by the call that `Deed` names: `listened`, `accepted`, `nobody`, `unaccepted`, `came`, `nothing`, `ended`,
-///   `failed`, `took` or `shut`. `lent` lends what is to be written. Where `next` gives none the poll is waited for, until
-///   `due` at most.
+///   `failed`, `took` or `shut`, or by `unwritten` where a write failed. `lent` lends what is to be written. Where `next`
+///   gives none the poll is waited for, until `due` at most.
 ///
 /// Sockets and listeners have numbers, of one table: a socket's is its own from `accepted` until `shut`, and then it may
 /// be another's. An answer to what wasn't asked, and a word of a number that nobody has, change nothing. Times are
@@ -56,6 +58,8 @@ pub struct Server {
     pub(crate) is_for_all: bool,
     /// The conference that the last calls asked something of.
     pub(crate) touched: Option<u32>,
+    /// How many bytes a message may have, header included, where that is bounded.
+    pub(crate) longest: Option<u32>,
 }
 
 impl Server {
@@ -74,6 +78,7 @@ impl Server {
             fault: None,
             is_for_all: false,
             touched: None,
+            longest: None,
         }
     }
 
@@ -92,6 +97,7 @@ impl Server {
             fault: None,
             is_for_all: false,
             touched: None,
+            longest: None,
         }
     }
 
@@ -109,7 +115,16 @@ impl Server {
             fault: None,
             is_for_all: true,
             touched: None,
+            longest: None,
         }
+    }
+
+    /// From now on a message of more than so many bytes, header included, ends its member's connection: what stands in front
+    /// of it is served. To be called before anybody is accepted.
+    pub fn end_longer(&mut self, longest: u32)
+        ensures next { self.new ≡ record self.old { longest = Some longest } }
+    {
+        self.longest = Some(longest);
     }
 
     /// Lends the loop, by which conferences are read: their status, their members, their journals.
@@ -137,7 +152,7 @@ impl Server {
     }
 
     /// When the time is wanted next, in microseconds: at the soonest time that is due for a socket, or over for a member.
-    /// Behind a `next` that gave nothing it is later than now.
+    /// Behind a `next` that gave nothing it is later than now, unless somebody's is over of a conference that is held.
     pub fn due(&mut self) -> Option<u64>
         ensures found { IfSome result (IsDueAt self.old) }
         ensures sockets { IfSome result (λ time. All (λ d. time ≤ d.until)

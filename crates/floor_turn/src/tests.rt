@@ -2,5 +2,7 @@
 
 mod clients;
 mod ends;
+mod holding;
+mod longest;
 mod members;
 mod page;

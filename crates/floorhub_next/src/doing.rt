@@ -118,8 +118,7 @@ impl Shell {
                 Handle::None | Handle::Listener(_) => {}
             }
         }
-        server.took(number, 0, now);
-        server.readable(number, true);
+        server.unwritten(number, now);
     }
 
     /// Shuts a socket, both ways, once what stands unread is thrown away, or ends a listener.

@@ -11,6 +11,13 @@ pub fn text_of(alloc: Global, entry: Entry) -> Result<String, AllocError> {
         Entry::Closed { conference } => of_conference(alloc, conference, "closed"),
         Entry::BrokenOff { conference } => of_conference(alloc, conference, "broken off"),
         Entry::Forgotten { conference } => of_conference(alloc, conference, "forgotten"),
+        Entry::Large {
+            conference,
+            megabytes,
+        } => {
+            let told = format!(in alloc; "received {megabytes} MB")?;
+            of_conference(alloc, conference, told.as_str())
+        }
         Entry::Listens(place) => of_place(alloc, place, "listens"),
         Entry::CannotListen(place) => of_place(alloc, place, "cannot listen"),
         Entry::Ended(place) => of_place(alloc, place, "ended"),

@@ -1,6 +1,10 @@
 //! One read and one write: what a stream gave is handed in, and what it took is what was lent.
 
-ghost use Rattle.std.specs.Prelude.{◌≡◌};
+ghost use Rattle.std.specs.Prelude.{◌≡◌, true};
+ghost use Rattle.floor_sockets.specs.Sockets.{life_at};
+ghost use Rattle.floor_connections.specs.Asked.{writes};
+ghost use Rattle.floor_connections.specs.Steps.{at_time};
+ghost use Rattle.floor_turn.specs.Over.{IsUnwritten};
 ghost use Rattle.floorhub_next.specs.Moving.{Heard, Wrote, count_of};
 
 use floor_streams::{Found, Written, read_some, write_some};
@@ -33,22 +37,29 @@ pub fn read_once<S: Read>(
     }
 }
 
-/// Writes once what is lent to a socket, and tells the value how much its stream took. Says whether the write failed: then
-/// it took none, and what the system has of the peer is read first.
+/// Writes once what is lent to a socket, and tells the value how much its stream took, or that the write failed. Says
+/// whether it did.
 pub fn write_once<S: Write>(server: &mut Server, stream: &mut S, socket: usize, now: u64) -> bool
     ensures value { Wrote socket server.old server.new
         (S.contents stream.old) (S.contents stream.new) }
+    ensures failed { result ≡ true
+        → writes (life_at server.old.connections.sockets socket) ≡ true
+        → IsUnwritten socket (at_time now server.old.connections.sockets)
+        server.new.connections.sockets }
 {
     let written = write_some(stream, server.lent(socket));
+    match written {
+        Written::Failure => {
+            server.unwritten(socket, now);
+            return true;
+        }
+        Written::All | Written::Bytes(_) | Written::Nothing => {}
+    }
     server.took(socket, count_of(written), now);
     match written {
         // A signal came between: it is written again.
         Written::Bytes(0) => server.writable(socket),
-        Written::Failure => {
-            server.readable(socket, true);
-            return true;
-        }
-        Written::All | Written::Bytes(_) | Written::Nothing => {}
+        Written::All | Written::Bytes(_) | Written::Nothing | Written::Failure => {}
     }
     false
 }

@@ -25,7 +25,7 @@ const BOUNDS: Bounds = Bounds {
 const MILLIS: u64 = 1_000;
 
 /// What is said where the words ask for what isn't served here.
-const REFUSED: &str = "error: --keep, --control and --longest are not served by this program yet\n";
+const REFUSED: &str = "error: --keep and --control are not served by this program yet\n";
 
 /// What is said where the words ask for more loops than there are.
 const LOOPS: &str = "--loops: one loop serves\n";
@@ -63,7 +63,7 @@ fn serve<R: Clock + Threads + Wait + Copy + Drop + Send + 'static>(
     waits: &R,
     words: &Words,
 ) -> Ending {
-    if words.keep.is_some() || words.control.is_some() || words.longest != MAX_LONGEST {
+    if words.keep.is_some() || words.control.is_some() {
         let _told = print(&mut rt.stderr(), REFUSED);
         return Ending::Refused;
     }
@@ -87,7 +87,11 @@ fn serve_over<R: Clock + Wait>(
     system: System,
     log: Option<Arc<Log, Global>>,
 ) -> Ending {
-    let mut shell = Shell::new(server_of(system.alloc, words), system, log);
+    let mut server = server_of(system.alloc, words);
+    if words.longest < MAX_LONGEST {
+        server.end_longer(words.longest);
+    }
+    let mut shell = Shell::new(server, system, log);
     shell.serve(waits, words)
 }
 

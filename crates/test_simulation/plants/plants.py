@@ -71,12 +71,16 @@ PLANTS = [
     # What is written.
     (401, "nobody is written to again", T + "writing.rt", "        self.connections.sockets.writable(socket);", "        if !B {\n            self.connections.sockets.writable(socket);\n        }"),
     (402, "who takes nothing is written to again at once", S + "life.rt", "                is_blocked: count < lent,\n", "                is_blocked: count < lent && !B,\n"),
-    (403, "behind a write what waits isn't lent", T + "writing.rt", "        see_to(&mut self.connections, &self.meetings, socket);\n    }", "        if B406 && count == 0 {\n            self.meetings.failed(socket, self.connections.millis());\n            self.connections.fail(socket);\n        }\n        if !B {\n            see_to(&mut self.connections, &self.meetings, socket);\n        }\n    }"),
+    (403, "behind a write what waits isn't lent", T + "writing.rt", "        see_to(&mut self.connections, &self.meetings, socket);\n    }", "        if !B {\n            see_to(&mut self.connections, &self.meetings, socket);\n        }\n    }"),
     (404, "the count that was taken is told of another socket", T + "writing.rt", "        self.meetings.took(socket, count, self.connections.millis());", "        self.meetings.took(if B { socket ^ 1 } else { socket }, if B407 && count != 0 { count + 1 } else { count }, self.connections.millis());"),
     (405, "another socket's bytes are lent", T + "server.rt", "        self.meetings.lent(socket)\n", "        self.meetings.lent(if B && !self.meetings.lent(socket ^ 1).is_empty() { socket ^ 1 } else { socket })\n"),
-    (406, "a failed write ends the socket: what came before is thrown away"),
+    (406, "a failed write ends the socket: what came before is thrown away", T + "writing.rt", "            fail_to_write(&mut self.connections, socket);", "            if B {\n                self.meetings.failed(socket, self.connections.millis());\n                self.connections.fail(socket);\n            } else {\n                fail_to_write(&mut self.connections, socket);\n            }"),
     (407, "a byte too many is told to be taken"),
     (408, "who is ready isn't seen to", T + "turning.rt", "        if self.see_to_ready() {", "        if !B && self.see_to_ready() {"),
+    (409, "a failed write of who is to be shut down ends nothing", T + "writing.rt", "    if is_over(&connections.sockets, socket) {", "    if !B && is_over(&connections.sockets, socket) {"),
+    (410, "who is to be shut down behind a failed write isn't written to", T + "writing.rt", "    connections.sockets.took(socket, 0, 0);", "    connections.sockets.took(socket, 0, usize::from(B));"),
+    (411, "behind a failed write nobody is read", T + "writing.rt", "    connections.sockets.readable(socket, true);", "    if !B {\n        connections.sockets.readable(socket, true);\n    }"),
+    (412, "what waits for a turn that tells nothing more isn't lent", T + "turning.rt", "        // What has waited for this turn is lent, unless it waits for the next.\n        see_to(&mut self.connections, &self.meetings, socket);", "        if !B {\n            see_to(&mut self.connections, &self.meetings, socket);\n        }"),
     # What is heard.
     (501, "bytes of one socket are served as another's", T + "hearing.rt", "self.meetings.came(socket, bytes, self", "self.meetings.came(if B && self.meetings.get(socket ^ 1).is_some() { socket ^ 1 } else { socket }, bytes, self"),
     (502, "the header's bytes are served as a message", T + "hearing.rt", "    bytes.get(at..).unwrap_or(&[])", "    let from = if B { 0 } else if B503 { bytes.len() } else { at };\n    bytes.get(from..).unwrap_or(&[])"),
@@ -116,8 +120,8 @@ PLANTS = [
     (705, "it rests, and says that its time has come", T + "server.rt", "        let of_sockets = self.connections.sockets.due();", "        let of_sockets = if B { Some(self.connections.time) } else { self.connections.sockets.due() };"),
     # Grace.
     (711, "who ended in order stays", T + "shutting.rt", "departure.is_lost(self.is_for_all)", "departure.is_lost((self.is_for_all && !B715) || B)"),
-    (712, "who has another connection there stays", T + "meeting.rt", "    if is_lost && sockets_of(meetings, member.conference, member.user) == 0 {", "    if is_lost && (B || sockets_of(meetings, member.conference, member.user) == 0) {"),
-    (713, "nobody stays", T + "meeting.rt", "        Ok(true) => {}\n", "        Ok(true) if !B => {}\n        Ok(true) => {\n            let _left = meetings.leave_away(member.number, now);\n            return false;\n        }\n"),
+    (712, "who has another connection there stays", T + "meeting.rt", "    if is_lost && sockets_of(meetings, member.conference, member.user) <= 1 {", "    if is_lost && (B || sockets_of(meetings, member.conference, member.user) <= 1) {"),
+    (713, "nobody stays", T + "meeting.rt", "        return false;\n    };\n    if is_lost", "        return false;\n    };\n    let is_lost = is_lost && !B;\n    if is_lost"),
     (714, "that a user is back isn't told", C + "connections.rt", "            Some(who) => self.tell(Entry::Back(who)),", "            Some(_) if B => {}\n            Some(who) => self.tell(Entry::Back(who)),"),
     (715, "who ended in order never stays"),
     # The stop.

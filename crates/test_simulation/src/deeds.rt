@@ -150,7 +150,7 @@ impl Run {
             self.server.came(slot, peer.take(count), now);
             return self.model.hear(number, count == MAX_READ);
         }
-        if peer.has_reset {
+        if peer.has_reset || peer.has_failed {
             self.server.failed(slot, now);
             return self.model.hear_end(number, Departure::Reset);
         }
@@ -170,10 +170,17 @@ impl Run {
         self.model.may_write(number, lent)?;
         self.model.note_turn(self.model.group(number));
         let count = lent.len();
-        let taken = self.model.world.peer_mut(number)?.write(count);
-        self.model.note_taken(number, taken, count)?;
         let now = self.model.pass();
-        self.server.took(slot, taken, now);
+        match self.model.world.peer_mut(number)?.write(count) {
+            Some(taken) => {
+                self.model.note_taken(number, taken, count)?;
+                self.server.took(slot, taken, now);
+            }
+            None => {
+                self.model.note_failure(number)?;
+                self.server.unwritten(slot, now);
+            }
+        }
         Ok(())
     }
 
@@ -202,6 +209,7 @@ impl Run {
             3 => self.server.ended(slot, now),
             4 => self.server.failed(slot, now),
             5 => self.server.unaccepted(slot, now),
+            6 => self.server.unwritten(slot, now),
             _ => is_let_in = self.server.accepted(slot, 0, now).is_ok(),
         }
         demand(!is_let_in, "who nobody accepts is let in", slot)

@@ -121,7 +121,7 @@ impl Drawing {
             180..=183 => Happening::Pass(LONG[self.below(6) as usize]),
             184 => Happening::Back(self.below(4_000_000)),
             185..=188 => Happening::Stray {
-                kind: self.below(7) as u16,
+                kind: self.below(8) as u16,
                 slot: self.below(40) as usize,
             },
             189..=193 => self.administer(),

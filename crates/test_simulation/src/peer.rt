@@ -53,6 +53,8 @@ pub struct Peer {
     pub has_ended: bool,
     pub has_reset: bool,
     is_broken: bool,
+    /// Whether a write to it has failed.
+    pub has_failed: bool,
     /// What the poll has to tell of its socket: that something may be read, that its stream ends, that it takes bytes.
     pub tells_readable: bool,
     pub tells_end: bool,
@@ -94,6 +96,7 @@ impl Peer {
             has_ended: false,
             has_reset: false,
             is_broken: false,
+            has_failed: false,
             tells_readable: false,
             tells_end: false,
             tells_writable: false,
@@ -201,16 +204,16 @@ impl Peer {
         }
     }
 
-    /// A write of so many bytes: how many its socket takes, none where it fails, of which the system tells the poll.
-    pub fn write(&mut self, count: usize) -> usize {
+    /// A write of so many bytes: how many its socket takes, or nothing where it fails.
+    pub fn write(&mut self, count: usize) -> Option<usize> {
         if self.is_broken || self.has_reset {
-            self.tell_end();
-            return 0;
+            self.has_failed = true;
+            return None;
         }
         let taken = count.min(self.room);
         if self.room < ALL {
             self.room = self.room.saturating_sub(taken);
         }
-        taken
+        Some(taken)
     }
 }

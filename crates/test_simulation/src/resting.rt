@@ -65,7 +65,8 @@ impl Model {
         if let Some(since) = life.since {
             let until = since.saturating_add(SHUT);
             let is_late = until.saturating_add(LATE) <= self.told;
-            let has_bytes = untaken != 0 && life.end != Some(Departure::Reset);
+            let has_failed = peer.has_failed || life.end == Some(Departure::Reset);
+            let has_bytes = untaken != 0 && !has_failed;
             demand(has_bytes, "who is to be shut isn't", number)?;
             demand(life.is_blocked, "who is to be shut isn't told all", number)?;
             demand(!is_late, "whose time is over isn't shut", number)?;

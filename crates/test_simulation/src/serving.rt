@@ -92,6 +92,14 @@ impl Model {
         Ok(())
     }
 
+    /// A write to a peer failed: it may be read, to its end, where it still is.
+    pub fn note_failure(&mut self, number: usize) -> Result<(), Fault> {
+        match self.life(number)?.since {
+            None => self.note_word(number, true),
+            Some(_) => Ok(()),
+        }
+    }
+
     /// A peer's socket may be shut.
     pub fn may_shut(&self, number: usize) -> Result<(), Fault> {
         let life = self.life(number)?;
@@ -99,9 +107,10 @@ impl Model {
             let is_late = matches!(life.stage, Stage::AtDoor(until) if until <= self.told);
             return demand(is_late, "who isn't to be shut is", number);
         };
-        let waits = life.end.is_some() && self.world.peer(number)?.waits(life);
+        let peer = self.world.peer(number)?;
+        let waits = life.end.is_some() && peer.waits(life);
         let is_late = since.saturating_add(SHUT) <= self.told.saturating_add(LATE);
-        let has_failed = life.end == Some(Departure::Reset);
+        let has_failed = peer.has_failed || life.end == Some(Departure::Reset);
         let is_written = is_late || has_failed || self.untaken(life) == 0;
         let is_served = !waits || self.is_cut_off(life);
         demand(is_served, "who is shut isn't served to its end", number)?;

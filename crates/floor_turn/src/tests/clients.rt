@@ -52,6 +52,27 @@ const CLIENT: &str = "\
 < shut 1
 > shut 1
 < .
+# A write to another fails: it is read first. One to whoever is to be shut down has it shut at once.
+> knocked 0
+< accept 0
+> accepted 0 0
+< accept 0
+> nobody 0
+< .
+> lend 1 bytes
+< write 1 0:
+> unwritten 1
+< read 1
+> client-came 1 40
+< read 1
+> nothing 1
+< .
+> lend 1 bytes ends
+< write 1 0:
+> unwritten 1
+< shut 1
+> shut 1
+< .
 ";
 
 #[test]

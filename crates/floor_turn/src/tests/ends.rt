@@ -163,6 +163,70 @@ fn who_is_shut_last_hears_of_the_others(rt: HostRuntime) -> Result<(), AllocErro
     Ok(())
 }
 
+const RESET: &str = "\
+> open 1
+< log 1 opened
+< listen 0 port 7010 of 1.10
+> listened 0
+< log port 7010 of 1.10 listens
+< .
+> knocked 0
+< accept 0
+> accepted 0 1
+< log port 7010 of 1.10 peer 1 member 1 of 1.10 joined
+< accept 0
+> accepted 0 2
+< log port 7010 of 1.10 peer 2 member 2 of 1.10 joined
+< accept 0
+> nobody 0
+< .
+# The stream of one has ended, and it takes a part of what it is told. Then a write fails: it is shut at once, for that end.
+> readable 1 ends
+< read 1
+> came 1 hello
+< write 1 48: 20 0c
+> took 1 8
+< read 1
+> ended 1
+< . 10000
+> unwritten 1
+< . 10000
+> writable 1
+< write 1 40: 00 01
+> unwritten 1
+< shut 1
+> shut 1
+< log port 7010 of 1.10 peer 1 member 1 of 1.10 left EndOfStream
+< .
+# At a stop the other is too.
+> readable 2
+< read 2
+> came 2 hello
+< write 2 48: 20 0c
+> took 2 8
+< .
+> stop
+< log stopping
+< unlisten 0
+> shut 0
+< log port 7010 of 1.10 ended
+< . 10000
+> writable 2
+< write 2 40: 00 01
+> unwritten 2
+< shut 2
+> shut 2
+< log port 7010 of 1.10 peer 2 member 2 of 1.10 left Stopped
+< end
+";
+
+#[test]
+fn who_is_reset_on_its_way_out_is_shut_at_once(rt: HostRuntime) -> Result<(), AllocError> {
+    let server = Server::new(rt.alloc(), BOUNDS);
+    assert_eq!(rt; difference(rt.alloc(), server, RESET)?.as_str(), "");
+    Ok(())
+}
+
 const FAULT: &str = "\
 > open 1
 < log 1 opened

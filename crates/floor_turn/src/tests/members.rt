@@ -196,18 +196,18 @@ const SLOW: &str = "\
 < accept 0
 > nobody 0
 < .
-# Twenty messages: eight are served in each turn, and what is told is written between them. Its write fails, which takes
-# nothing and ends nothing.
+# Twenty messages: eight are served in each turn, and what is told is written once all are. Its write fails, which takes
+# nothing and ends nothing: nor does the next. What the system has of it is read and served, and then a read says that it
+# was reset: nothing of it is lost.
 > readable 1
 < read 1
 > came 1 20
-< write 1 384: 20 0c
-> took 1 0
-< .
-# What the system has of it is read and served, and then a read says that it was reset: nothing of it is lost.
-> readable 1 ends
+< write 1 960: 20 0c
+> unwritten 1
 < read 1
 > came 1 request
+< write 1 1000: 20 0c
+> unwritten 1
 < read 1
 > failed 1
 < shut 1
@@ -317,6 +317,25 @@ const ROUNDS: &str = "\
 < accept 0
 > nobody 0
 < .
+# A hundred messages come at once: the other conference is read behind eight of them, and a write takes 64 answers.
+> told 2
+> told 4
+> next
+< read 2
+> came 2 rest 99
+< read 4
+> nothing 4
+< write 2 3072: 20 0c
+> took 2 3072
+< write 2 1728: 20 0c
+> took 2 1728
+< .
+> readable 2
+< read 2
+> came 2 8
+< write 2 384: 20 0c
+> took 2 384
+< .
 ";
 
 #[test]
@@ -345,7 +364,7 @@ const AWAY: &str = "\
 < read 1
 > came 1 request
 < write 1 40: 20 04
-> took 1 0
+> unwritten 1
 < read 1
 > failed 1
 < shut 1

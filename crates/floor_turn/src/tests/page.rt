@@ -57,6 +57,12 @@ impl Paged {
             "door" => self
                 .server
                 .door(NamedBy::UniqueId, number(words.get(1)) as u16)?,
+            "longest" => self.server.end_longer(number(words.get(1)) as u32),
+            "received" => {
+                let conference = number(words.get(1)) as u32;
+                let count = number(words.get(2)) as usize;
+                self.server.connections.receive(conference, count);
+            }
             "health" => self.server.health(number(words.get(1)) as u16)?,
             "port" => {
                 let _added = self.server.port(
@@ -82,6 +88,7 @@ impl Paged {
             }
             "nothing" => self.server.nothing(socket),
             "took" => self.server.took(socket, number(words.get(2)) as usize, now),
+            "unwritten" => self.server.unwritten(socket, now),
             "ended" => self.server.ended(socket, now),
             "failed" => self.server.failed(socket, now),
             "shut" => self.server.shut(socket),
@@ -133,6 +140,16 @@ impl Paged {
             "remove" => self.server.remove(number(words.get(1)), now),
             "ban" => self.server.ban(conference, user)?,
             "admit" => self.server.admit(conference, user),
+            "keep" => {
+                let _begun = self.server.begin_keeping(conference);
+            }
+            "keep-no-more" => {
+                let _ended = self.server.end_keeping(conference);
+            }
+            "hold" => self.server.hold(conference),
+            "let-go" => {
+                let _kept = self.server.let_go(conference, count as u32);
+            }
             _ => {}
         }
         Ok(())
@@ -198,8 +215,8 @@ fn number(word: Option<&&str>) -> u64 {
     word.and_then(|word| word.parse().ok()).unwrap_or(0)
 }
 
-/// The bytes that words say: two digits are a byte; `hello`, `half`, `request`, `watch` and `header` are messages and
-/// a proxy's header.
+/// The bytes that words say: a number is so many Hellos; `hello`, `half`, `request`, `watch`, `long` and `header` are
+/// messages and a proxy's header.
 fn bytes_of(alloc: Global, words: &[&str]) -> Result<Vec<u8>, AllocError> {
     let mut bytes = Vec::new(alloc);
     for word in words {
@@ -233,6 +250,10 @@ fn bytes_of(alloc: Global, words: &[&str]) -> Result<Vec<u8>, AllocError> {
             "watch-11" => bytes.extend_from_slice(&[
                 0x20, 7, 0, 1, 0, 0, 0, 1, 0, 1, 0, 11, 0x04, 4, 0, 1,
             ])?,
+            // A Hello that says that it has 112 bytes, of which 12 are there; and the same in two parts.
+            "long" => bytes.extend_from_slice(&[0x20, 11, 0, 25, 0, 0, 0, 1, 0, 1, 0, 10])?,
+            "long-front" => bytes.extend_from_slice(&[0x20, 11, 0])?,
+            "long-rest" => bytes.extend_from_slice(&[25, 0, 0, 0, 1, 0, 1, 0, 10])?,
             // User 11 says Hello.
             "hello-11" => bytes.extend_from_slice(&[0x20, 11, 0, 0, 0, 0, 0, 1, 0, 1, 0, 11])?,
             times => {
@@ -287,6 +308,10 @@ fn tell_entry(text: &mut String, entry: &Entry) -> Result<(), AllocError> {
         Entry::Closed { conference } => write!(text, "{conference} closed"),
         Entry::BrokenOff { conference } => write!(text, "{conference} broken off"),
         Entry::Forgotten { conference } => write!(text, "{conference} forgotten"),
+        Entry::Large {
+            conference,
+            megabytes,
+        } => write!(text, "{conference} received {megabytes} MB"),
         Entry::Listens(place) => {
             tell_place(text, *place)?;
             text.push_str(" listens")

@@ -1,5 +1,7 @@
 use Rattle.std.proofs.Common.{refl, ◌≡◌, ◌∙◌, ◌++◌, ◌-◌, ap, drop, inl, inr, length, subst, sym, Some}
+use Rattle.floor_connections.proofs.Logging.{receives_from}
 use Rattle.floor_connections.proofs.Steps.{steps_then}
+use Rattle.floor_connections.specs.Steps.{Steps}
 use Rattle.floor_proxy.specs.Header.{proxy}
 use Rattle.floor_doors.specs.Follows.{follows}
 use Rattle.floor_doors.specs.declared.newcomer.Verdict.TheVariants.{Enter, Refuse}
@@ -10,10 +12,13 @@ use Rattle.floor_connections.specs.Table.{is_at_door, peer_of, socket_at}
 use Rattle.floor_connections.specs.declared.table.Socket.TheVariants.{AtDoor}
 use Rattle.floor_connections.specs.declared.table.Table.{Table}
 use Rattle.floor_connections.specs.declared.conferences.Conferences.{Conferences}
-use Rattle.floor_turn.specs.Entering.{EntersOrNot}
+use Rattle.floor_turn.specs.Entering.{EntersOrWaits}
 use Rattle.floor_turn.proofs.Handing.{never}
 use Rattle.floor_turn.proofs.Entering.{no_wait_enter, no_wait_refuse, told}
+use Rattle.floor_turn.proofs.Heard.{hears_at}
 use Rattle.floor_turn.proofs.Moving.{moves_same}
+use Rattle.floor_turn.proofs.Sparing.{free_same}
+use Rattle.floor_turn.specs.Held.{MovesFree}
 use Rattle.floor_turn.proofs.server.Server.came.Goals as goal
 
 pub returns-then-not-is_reading-clause-moves : goal.returns-then-not-is_reading-clause-moves
@@ -23,7 +28,31 @@ pub returns-then-is_at_door-clause-steps : goal.returns-then-is_at_door-clause-s
 returns-then-is_at_door-clause-steps c = steps_then c.args.self.now.connections.sockets c.pass.new.self.sockets c.act_on.new.self.connections.sockets c.pass.ensures.steps c.act_on.ensures.steps
 
 pub returns-else-is_at_door-clause-steps : goal.returns-else-is_at_door-clause-steps
-returns-else-is_at_door-clause-steps c = steps_then c.args.self.now.connections.sockets c.pass.new.self.sockets c.hear.new.self.connections.sockets c.pass.ensures.steps c.hear.ensures.steps
+returns-else-is_at_door-clause-steps c =
+    let heard : Steps c.pass.new.self.sockets c.hear.new.self.connections.sockets = subst (λ (s : Sockets). Steps s c.hear.new.self.connections.sockets) c.count.ensures.sockets c.hear.ensures.steps in
+    steps_then c.args.self.now.connections.sockets c.pass.new.self.sockets c.hear.new.self.connections.sockets c.pass.ensures.steps heard
+
+pub returns-else-is_at_door-clause-heard : goal.returns-else-is_at_door-clause-heard
+returns-else-is_at_door-clause-heard c = λ asked at. hears_at c.args.socket c.args.self.now.longest c.args.bytes.now c.args.self.now.connections.table c.count.new.connections.table c.args.self.now.meetings c.hear.new.self.meetings (c.count.ensures.table ∙ c.pass.ensures.table) c.hear.ensures.heard
+
+pub returns-else-is_at_door-clause-counted : goal.returns-else-is_at_door-clause-counted
+returns-else-is_at_door-clause-counted c = λ m asked at there. record {
+  between = c.count.new.connections;
+  took = receives_from m.conference (length c.args.bytes.now) c.args.self.now.connections c.pass.new.self c.count.new.connections c.pass.ensures.conferences c.pass.ensures.log (c.count.ensures.took m there);
+  goes_on = c.hear.ensures.goes_on;
+}
+
+pub returns-then-is_at_door-clause-heard : goal.returns-then-is_at_door-clause-heard
+returns-then-is_at_door-clause-heard c = λ asked at. never _ (sym at ∙ (ap (λ (t : Table). is_at_door (socket_at t c.args.socket)) (sym c.pass.ensures.table) ∙ (sym c.is_at_door.ensures.value ∙ c.if-is_at_door.true)))
+
+pub returns-then-is_at_door-clause-counted : goal.returns-then-is_at_door-clause-counted
+returns-then-is_at_door-clause-counted c = λ m asked at there. never _ (sym at ∙ (ap (λ (t : Table). is_at_door (socket_at t c.args.socket)) (sym c.pass.ensures.table) ∙ (sym c.is_at_door.ensures.value ∙ c.if-is_at_door.true)))
+
+pub returns-then-not-is_reading-clause-heard : goal.returns-then-not-is_reading-clause-heard
+returns-then-not-is_reading-clause-heard c = λ asked at. never _ (sym c.if-not-is_reading.true ∙ (c.is_reading.ensures.value ∙ ap (λ (s : Sockets). reads (life_at s c.args.socket)) c.pass.ensures.sockets ∙ asked))
+
+pub returns-then-not-is_reading-clause-counted : goal.returns-then-not-is_reading-clause-counted
+returns-then-not-is_reading-clause-counted c = λ m asked at there. never _ (sym c.if-not-is_reading.true ∙ (c.is_reading.ensures.value ∙ ap (λ (s : Sockets). reads (life_at s c.args.socket)) c.pass.ensures.sockets ∙ asked))
 
 pub returns-then-is_at_door-clause-entered : goal.returns-then-is_at_door-clause-entered
 returns-then-is_at_door-clause-entered c = λ peer n d u len asked at header.
@@ -32,7 +61,7 @@ returns-then-is_at_door-clause-entered c = λ peer n d u len asked at header.
     let there : socket_at c.pass.new.self.table c.args.socket ≡ Some (AtDoor peer n) = ap (λ (t : Table). socket_at t c.args.socket) c.pass.ensures.table ∙ at in
     let said = told v held (proxy n.named_by (n.held ++ c.args.bytes.now)) (c.came_at_door-verdict.ensures.value peer n there) in
     elim said [
-      | inl e ↦ let named : v ≡ Enter d u (len - held) = e ∙ ap (follows held) header in inl (subst (λ (cs : Conferences). EntersOrNot c.args.socket d u (drop (len - held) c.args.bytes.now) cs c.args.self.now.meetings c.act_on.new.self) c.pass.ensures.conferences (c.act_on.ensures.entered peer d u (len - held) (ap peer_of (c.came_at_door-verdict.ensures.left (no_wait_enter v d u (len - held) named) c.args.socket ∙ there)) named))
+      | inl e ↦ let named : v ≡ Enter d u (len - held) = e ∙ ap (follows held) header in inl (subst (λ (cs : Conferences). EntersOrWaits c.args.socket d u (drop (len - held) c.args.bytes.now) cs c.args.self.now.meetings c.act_on.new.self) c.pass.ensures.conferences (c.act_on.ensures.entered peer d u (len - held) (ap peer_of (c.came_at_door-verdict.ensures.left (no_wait_enter v d u (len - held) named) c.args.socket ∙ there)) named))
       | inr e ↦ inr (c.act_on.ensures.refused peer Memory (ap peer_of (c.came_at_door-verdict.ensures.left (no_wait_refuse v Memory e) c.args.socket ∙ there)) e)
     ]
 
@@ -58,3 +87,12 @@ returns-then-not-is_reading-clause-entered c = λ peer n d u len asked at header
 
 pub returns-then-not-is_reading-clause-wrong : goal.returns-then-not-is_reading-clause-wrong
 returns-then-not-is_reading-clause-wrong c = λ peer n why asked at header. never _ (sym c.if-not-is_reading.true ∙ (c.is_reading.ensures.value ∙ ap (λ (s : Sockets). reads (life_at s c.args.socket)) c.pass.ensures.sockets ∙ asked))
+
+pub returns-then-not-is_reading-clause-spares : goal.returns-then-not-is_reading-clause-spares
+returns-then-not-is_reading-clause-spares c = λ free. free_same c.args.self.now.connections.conferences c.args.self.now.meetings c.args.self.now.meetings refl
+
+pub returns-then-is_at_door-clause-spares : goal.returns-then-is_at_door-clause-spares
+returns-then-is_at_door-clause-spares c = λ free. subst (λ (cs : Conferences). MovesFree cs c.args.self.now.meetings c.act_on.new.self.meetings) c.pass.ensures.conferences c.act_on.ensures.spares
+
+pub returns-else-is_at_door-clause-spares : goal.returns-else-is_at_door-clause-spares
+returns-else-is_at_door-clause-spares c = c.hear.ensures.spares c.args.self.now.connections.conferences

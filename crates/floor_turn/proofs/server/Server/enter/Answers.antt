@@ -1,6 +1,10 @@
-use Rattle.std.proofs.Common.{ℕ, List, inl, inr, ap, ◌∙◌, subst, refl}
-use Rattle.floor_meetings.specs.Runs.{Came, Does}
-use Rattle.floor_connections.specs.Table.{is_member, peer_of, socket_at}
+use Rattle.std.proofs.Common.{◌≡◌, ℕ, List, Some, drop, inl, inr, sym, ap, ◌∙◌, subst, refl}
+use Rattle.std.specs.Prelude.{Option}
+use Rattle.floor_connections.specs.declared.announced.Announced.TheVariants.{Before}
+use Rattle.floor_connections.specs.Announced.{announcing, has_too_long, own_of}
+use Rattle.floor_turn.specs.Hearing.{Hears}
+use Rattle.floor_turn.proofs.Heard.{hears_of}
+use Rattle.floor_connections.specs.Table.{announced_of, is_member, peer_of, socket_at}
 use Rattle.floor_connections.specs.declared.table.Table.{Table}
 use Rattle.floor_connections.proofs.Steps.{steps_then, steps_more}
 use Rattle.floor_sockets.specs.Runs.{Fail}
@@ -8,6 +12,9 @@ use Rattle.floor_sockets.specs.Sockets.{life_at}
 use Rattle.floor_connections.proofs.Ending.{ends_by}
 use Rattle.floor_turn.proofs.Entering.{turned_there}
 use Rattle.floor_turn.proofs.Moving.{moves_then}
+use Rattle.floor_turn.proofs.Sparing.{free_member, free_then}
+use Rattle.floor_connections.specs.Conferences.{is_held}
+use Rattle.floor_meetings.specs.Meetings.{member_at}
 use Rattle.floor_turn.proofs.server.Server.enter.Goals as goal
 
 pub returns-in-Ok-clause-entered : goal.returns-in-Ok-clause-entered
@@ -16,8 +23,11 @@ returns-in-Ok-clause-entered c = λ peer at.
     inl (record {
       between = joined.meetings;
       joined = c.in-Ok.ensures.entered;
-      answer = c.hear.ensures.heard.0;
-      heard = subst (λ (bytes : List ℕ). Does (Came c.args.socket bytes c.hear.ensures.heard.0) joined.meetings c.hear.new.self.meetings) c.behind.ensures.value c.hear.ensures.heard.1;
+      heard =
+          let stands : announced_of (socket_at c.let_in.new.self.table c.args.socket) ≡ Some (Before 2) = ap announced_of (c.let_in.ensures.here peer (ap (λ (t : Table). peer_of (socket_at t c.args.socket)) c.join.ensures.table ∙ at)) in
+          let first = hears_of c.args.socket joined.longest c.behind.result.now (Some (Before 2)) (announced_of (socket_at c.let_in.new.self.table c.args.socket)) joined.meetings c.hear.new.self.meetings stands c.hear.ensures.heard in
+          let whole = subst (λ (bytes : List ℕ). Hears c.args.socket (own_of joined.longest (Some (Before 2)) bytes) (has_too_long (announcing joined.longest bytes (Some (Before 2)))) joined.meetings c.hear.new.self.meetings) c.behind.ensures.value first in
+          subst (λ (l : Option ℕ). Hears c.args.socket (own_of l (Some (Before 2)) (drop c.args.at c.args.bytes.now)) (has_too_long (announcing l (drop c.args.at c.args.bytes.now) (Some (Before 2)))) joined.meetings c.hear.new.self.meetings) (sym c.hear.ensures.longest) whole;
       member = c.hear.ensures.member ∙ ap is_member (c.let_in.ensures.here peer (ap (λ (t : Table). peer_of (socket_at t c.args.socket)) c.join.ensures.table ∙ at));
     })
 
@@ -45,3 +55,13 @@ returns-in-Ok-clause-steps c =
 
 pub returns-in-Err-clause-steps : goal.returns-in-Err-clause-steps
 returns-in-Err-clause-steps c = steps_more (Fail c.args.socket) c.args.self.now.connections.sockets c.join.new.self.connections.sockets c.turn_away.new.self.sockets (λ slot. refl) c.join.ensures.steps c.turn_away.ensures.failed
+
+pub returns-in-Ok-clause-spares : goal.returns-in-Ok-clause-spares
+returns-in-Ok-clause-spares c = λ free.
+    let cs = c.args.self.now.connections.conferences in
+    let joined = c.in-Ok.ensures.joined in
+    free_then cs c.args.self.now.meetings c.join.new.self.meetings c.hear.new.self.meetings (c.join.ensures.spares free)
+    (c.hear.ensures.spares cs (free_member cs (member_at c.join.new.self.meetings c.args.socket) joined.0 joined.1 (ap (is_held cs) joined.2 ∙ free)))
+
+pub returns-in-Err-clause-spares : goal.returns-in-Err-clause-spares
+returns-in-Err-clause-spares c = c.join.ensures.spares
