@@ -146,15 +146,6 @@ def listed(root):
     return [page for folder in FOLDERS for page in pages_of(root, folder)] + LISTED_BESIDES
 
 
-def lengths(root):
-    """How many words each page of docs/ has, in its text and its tables, and all of them."""
-    found = {}
-    for page in readable(root):
-        if page.startswith("docs/"):
-            found[page] = sum(words(it) for _, part in parts((root / page).read_text()) for it in sentences(part))
-    return [*(f"{count:6} {page}" for page, count in found.items()), f"{sum(found.values()):6} in all"]
-
-
 def unreadable(root):
     """What hinders a reader of these pages."""
     for page in readable(root):

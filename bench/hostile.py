@@ -2,13 +2,12 @@
 """Peers that mean no good: ./hostile.py SERVER [CASE ..]
 
 Runs each case (or those that are named) against a floord or a floorhub of its own, whose conference 1 the case
-may do to what it likes; those at a door, and `too_long`, want a floorhub, and are left out before a floord.
-Meanwhile a Hello of conference 2 is answered all the while, each within DEADLINE. Every answer is compared with
-what messages.py has for it; at the end of a case the events in the conference's journal that are no
-acknowledgements, the report of `stop` and its status are what the case did, and threads and descriptors are what
-they were. (Acknowledgements depend on how often a writer finds nothing waiting.) Prints what was answered, the
-times of conference 2's Hellos, and the server's memory, threads and descriptors: before, at most, after. Status 1
-where a case failed.
+may do to what it likes; those at a door want a floorhub, and are left out before a floord. Meanwhile a Hello of
+conference 2 is answered all the while, each within DEADLINE. Every answer is compared with what messages.py has
+for it; at the end of a case the events in the conference's journal that are no acknowledgements, the report of
+`stop` and its status are what the case did, and threads and descriptors are what they were. (Acknowledgements
+depend on how often a writer finds nothing waiting.) Prints what was answered, the times of conference 2's
+Hellos, and the server's memory, threads and descriptors: before, at most, after. Status 1 where a case failed.
 """
 import multiprocessing
 import os
@@ -457,43 +456,6 @@ def long_messages(case):
         (full - before) / 400, 1000 * took / 400)
 
 
-# How many bytes a message may have where that is said.
-LONGEST = 64
-
-
-def too_long(case):
-    """Messages that are longer than may be: what stands in front of one is served, and its connection ends."""
-    longest = message(HELLO, 1, 1, 10, attribute(100, bytes(LONGEST - 12 - 2)))
-    counts = (0, 1, 64, 340, 700)
-    for count in counts:
-        # One begun and sent no further, by a word more and by all there are, whole, and before others.
-        for words in (struct.pack('>BBH', 0x20, HELLO, LONGEST // 4 - 2), struct.pack('>BBH', 0x20, HELLO, 65535),
-                      message(HELLO, 1, 1, 10, bytes(LONGEST - 8)) + 10 * hello()):
-            client = case.member()
-            case.exchange(client, hello() * count + longest + words, ack() * (count + 1), count + 1)
-            ends_in_order(client)
-    for cut in range(1, 4):
-        client = case.member()
-        case.exchange(client, hello() + words[:cut], ack())
-        if not silent(client):
-            raise Failed('%d bytes of a header are answered' % cut)
-        client.sendall(words[cut:])
-        ends_in_order(client)
-    case.wait_for_members(0)
-    case.log.seek(0)
-    left = [line.split(' left ')[1] for line in case.log if ' left ' in line]
-    if left != (3 * len(counts) + 3) * ['TooLong\n']:
-        raise Failed('the log says of those who left: %s' % left)
-    return 'up to 700 Hellos and one of %d bytes in front of it: each is answered, and then it ends' % LONGEST
-
-
-def ends_in_order(client):
-    how = ended(client)
-    client.close()
-    if how != 'its end':
-        raise Failed('%s came in place of the end' % how)
-
-
 def beyond_64(case):
     """More connections than a conference takes, of two peers at two ports."""
     clients = [case.member(USERS[k % 2]) for k in range(64)]
@@ -705,12 +667,12 @@ def unread(case):
 
 
 def unread_again(case):
-    """Six peers, one after another, that are cut with long answers: memory is used again.
+    """Five peers, one after another, that are cut with long answers: memory is used again.
 
     With one arena, so that malloc keeps what was given back in one place.
     """
     fulls = []
-    for _ in range(6):
+    for _ in range(5):
         clients = crowd(case)
         clients[3].sendall(message(FLOOR_QUERY, 1, 1, 13, floors(1, 2, 3, 4)) * 1500)
         case.wait_for(3, 192)
@@ -726,11 +688,11 @@ def unread_again(case):
             raise Failed('%d of 1,500 queries came' % came)
         case.events += came
         case.wait_until_back()
-    # What the first two took may have gone back to the system before it is looked at; the third's stays.
-    first = max(fulls[:3])
-    if first - case.before['VmRSS'] > 16 * MAX_WAITING or max(fulls[3:]) > 1.2 * first:
-        raise Failed('six outboxes one after another take %s kB' % fulls)
-    return '1,024 statuses of 64 requests each, six times: %s MB in all' % ', '.join(
+    # What the first took may have gone back to the system before it is looked at; the second's stays.
+    first = max(fulls[:2])
+    if first - case.before['VmRSS'] > 16 * MAX_WAITING or max(fulls[2:]) > 1.2 * first:
+        raise Failed('five outboxes one after another take %s kB' % fulls)
+    return '1,024 statuses of 64 requests each, five times: %s MB in all' % ', '.join(
         '%.0f' % (full / 1024) for full in fulls)
 
 
@@ -1477,7 +1439,7 @@ def main():
         name = body.__name__
         if chosen and name not in chosen:
             continue
-        if {'--door', '--longest'} & set(how.get('words', ())) and not is_hub(sys.argv[1]):
+        if '--door' in how.get('words', ()) and not is_hub(sys.argv[1]):
             continue
         print('%s: %s' % (name, body.__doc__.split('\n')[0]), flush=True)
         case = Case(sys.argv[1], **how)
@@ -1502,7 +1464,6 @@ CASES = (
     (malformed, {}),
     (largest, {}),
     (long_messages, {'words': ('--log',)}),
-    (too_long, {'words': ('--log', '--longest', str(LONGEST))}),
     (beyond_64, {}),
     (two_peers, {}),
     (connect_and_leave, {}),

@@ -1,13 +1,13 @@
 //! What an administrator's lines are about: the conferences of the value.
 
-use crate::console::Telling;
-use crate::lines::done_by;
 use crate::shell::Shell;
 use floor_config::{Config, Floor, Text, User};
 use floor_console::{Board, BoardRefusal, StopRefusal, Stopped};
 use floor_machine::AddedUser;
-use floor_room::{Phase, Status, add_end, add_lines};
+use floor_program::{Telling, done_by};
+use floor_room::{Status, add_end, add_lines};
 use floor_server::{Reason, configurations, read_text};
+use floor_service::{Words, titles_of};
 use floor_turn::{Act, HubRefusal};
 use std::alloc::AllocError;
 use std::fs;
@@ -19,29 +19,22 @@ impl Shell {
         let text = system.checked(read_text(&system.rt, alloc, path))?;
         let configs = system.checked(configurations(alloc, path, text.as_str()))?;
         let count = configs.len();
+        let titles = titles_of(alloc, text.as_str())?;
+        let mut titles = titles.unwrap_or(Vec::new(alloc)).into_iter();
         for config in configs {
-            self.open_one(config)?;
+            self.open_one(config, titles.next().unwrap_or(Words::new(alloc)))?;
         }
         Ok(count)
     }
 
     /// Opens a conference, once its ports are had.
-    fn open_one(&mut self, config: Config) -> Result<(), BoardRefusal> {
+    fn open_one(&mut self, config: Config, titles: Words) -> Result<(), BoardRefusal> {
         match self.server.hub().status(config.conference()) {
             Err(HubRefusal::NoConference) => {}
             _ => return Err(BoardRefusal::Used),
         }
-        let before = self.system.bound.len();
-        let opened = self.open_bound(config);
-        self.system.unbind(before, opened)
-    }
-
-    fn open_bound(&mut self, config: Config) -> Result<(), BoardRefusal> {
-        let conference = config.conference();
-        self.conferences.reserve(1)?;
         self.system.bind_all(&config)?;
-        self.server.open(config).map_err(refused_by)?;
-        self.conferences.push_reserved(conference);
+        self.server.open(config, titles).map_err(refused_by)?;
         let _is_done = self.settle();
         Ok(())
     }
@@ -100,19 +93,13 @@ impl Shell {
 
     /// What the server had.
     pub fn report(&self) -> Result<Stopped, StopRefusal> {
-        let mut events = 0u128;
-        for conference in self.conferences.iter() {
-            if let Ok(status) = self.server.hub().status(*conference) {
-                events = events.saturating_add(u128::from(status.events));
-                if status.phase == Phase::Broken {
-                    let conference = *conference;
-                    return Err(StopRefusal::Broken { conference });
-                }
-            }
+        if let Some(conference) = self.server.broken() {
+            return Err(StopRefusal::Broken { conference });
         }
+        let totals = self.server.totals();
         Ok(Stopped {
-            seats: self.joined,
-            events,
+            seats: totals.seats as usize,
+            events: u128::from(totals.events),
         })
     }
 }
@@ -159,9 +146,7 @@ impl Board for Shell {
 
     fn add_user(&mut self, conference: u32, user: User) -> Result<(), BoardRefusal> {
         let _status = self.status(conference)?;
-        let before = self.system.bound.len();
-        let added = self.add(conference, user);
-        self.system.unbind(before, added)
+        self.add(conference, user)
     }
 
     fn add_floor(&mut self, conference: u32, floor: Floor) -> Result<(), BoardRefusal> {

@@ -1,18 +1,19 @@
 //! A run of the program by its words.
 
-use crate::shell::Shell;
+use crate::shell::{Shell, now_since};
 use crate::system::System;
 use floor_listen::{Ending, ServerFault};
 use floor_log::Log;
+use floor_program::read_seed;
 use floor_server::{
-    MAX_LONGEST, Program, Task, Words, check_configuration, check_keeping, ending_of_words, print,
-    read_words,
+    MAX_LONGEST, Program, Task, VERSION, Words, check_configuration, check_keeping,
+    ending_of_words, print, read_words,
 };
-use floor_turn::{Bounds, Grace, Server};
-use std::alloc::Global;
+use floor_service::{Bounds, Grace, Now, Server, Service, Text};
+use std::alloc::{AllocError, Global};
 use std::sync::{Arc, Wait};
 use std::thread::Threads;
-use std::time::Clock;
+use std::time::{Clock, Instant};
 
 /// How many sockets of a conference and of one of its users there are at most, of whose members 64 may be live: as many
 /// again may be on their way out.
@@ -25,7 +26,7 @@ const BOUNDS: Bounds = Bounds {
 const MILLIS: u64 = 1_000;
 
 /// What is said where the words ask for what isn't served here.
-const REFUSED: &str = "error: --keep and --control are not served by this program yet\n";
+const REFUSED: &str = "error: --keep is not served by this program yet\n";
 
 /// What is said where the words ask for more loops than there are.
 const LOOPS: &str = "--loops: one loop serves\n";
@@ -63,13 +64,16 @@ fn serve<R: Clock + Threads + Wait + Copy + Drop + Send + 'static>(
     waits: &R,
     words: &Words,
 ) -> Ending {
-    if words.keep.is_some() || words.control.is_some() {
+    if words.keep.is_some() {
         let _told = print(&mut rt.stderr(), REFUSED);
         return Ending::Refused;
     }
     if words.loops.is_some() {
         let _told = print(&mut rt.stderr(), LOOPS);
     }
+    let Ok(seed) = read_seed(&rt) else {
+        return Ending::Fault(ServerFault::CannotRead);
+    };
     let Ok(system) = System::new(rt) else {
         return Ending::Fault(ServerFault::Memory);
     };
@@ -77,26 +81,48 @@ fn serve<R: Clock + Threads + Wait + Copy + Drop + Send + 'static>(
         true => Log::start(*waits, rt.alloc(), rt.stderr()),
         false => None,
     };
-    serve_over(waits, words, system, log)
+    serve_over(waits, words, seed, system, log)
 }
 
 /// Serves over what was had of the system.
-fn serve_over<R: Clock + Wait>(
+fn serve_over<R: Clock + Threads + Wait>(
     waits: &R,
     words: &Words,
+    seed: [u8; 32],
     system: System,
     log: Option<Arc<Log, Global>>,
 ) -> Ending {
-    let mut server = server_of(system.alloc, words);
-    if words.longest < MAX_LONGEST {
-        server.end_longer(words.longest);
-    }
-    let mut shell = Shell::new(server, system, log);
+    let begun = Instant::now(&system.rt).ok();
+    let Ok(server) = service_of(system.alloc, words, seed, now_since(&system.rt, begun)) else {
+        return Ending::Fault(ServerFault::Memory);
+    };
+    let mut shell = Shell::new(server, system, begun, log);
     shell.serve(waits, words)
 }
 
-/// The value, where members outlive their sockets as the words say.
+/// The value, whose control clients are told this version.
+fn service_of(
+    alloc: Global,
+    words: &Words,
+    seed: [u8; 32],
+    now: Now,
+) -> Result<Service, AllocError> {
+    let version = VERSION.split(' ').next().unwrap_or(VERSION);
+    let version = Text::from_string(String::from_str(alloc, version)?);
+    Service::new(alloc, server_of(alloc, words), seed, version, now)
+}
+
+/// The server of members, whose messages may be as long as the words say.
 fn server_of(alloc: Global, words: &Words) -> Server {
+    let mut server = server_with_grace(alloc, words);
+    if words.longest < MAX_LONGEST {
+        server.end_longer(words.longest);
+    }
+    server
+}
+
+/// The server of members, who outlive their sockets as the words say.
+fn server_with_grace(alloc: Global, words: &Words) -> Server {
     if words.grace == 0 {
         return Server::new(alloc, BOUNDS);
     }

@@ -2,16 +2,18 @@
 //!
 //! Ports are listened on before the value is told of them, so that where one can't be had nothing is opened.
 
+use crate::reading::Reader;
 use floor_config::Config;
 use floor_console::BoardRefusal;
 use floor_listen::listening_address;
+use floor_program::{ClientSocket, HttpPort};
 use floor_server::{Door, PortFault, Reason, tell};
-use floor_turn::MAX_READ;
-use mio::net::{TcpListener, TcpStream};
+use floor_service::MAX_READ;
+use mio::net::{TcpListener, TcpStream, UnixStream};
 use mio::{Events, Poll};
 use std::alloc::{AllocError, Global};
-use std::mem;
 use std::net::SocketAddr;
+use std::{io, mem};
 
 /// How many sockets are told to be ready at a time.
 const MAX_EVENTS: usize = 1_024;
@@ -21,8 +23,12 @@ const MAX_EVENTS: usize = 1_024;
 pub enum Handle {
     None,
     Listener(TcpListener),
+    /// That of control clients.
+    Clients(ClientSocket),
     /// A peer's, and whether a write to it has failed.
     Stream(TcpStream, bool),
+    /// A control client's.
+    Client(UnixStream),
 }
 
 /// A port that is listened on.
@@ -43,6 +49,10 @@ pub struct System {
     pub handles: Vec<Handle>,
     /// What is listened on and isn't the value's yet.
     pub bound: Vec<Bound>,
+    pub control: Option<ClientSocket>,
+    pub observe: Option<ClientSocket>,
+    pub http: Option<HttpPort>,
+    pub reader: Reader,
     /// What a read gives.
     pub buffer: Vec<u8>,
 }
@@ -54,6 +64,7 @@ impl System {
         let poll = Poll::new(&rt).map_err(|_| AllocError)?;
         let events = Events::with_capacity(alloc, MAX_EVENTS)?;
         let buffer = Vec::from_elem(alloc, 0u8, MAX_READ)?;
+        let reader = Reader::new(alloc, &poll)?;
         Ok(System {
             rt,
             alloc,
@@ -61,6 +72,10 @@ impl System {
             events,
             handles: Vec::new(alloc),
             bound: Vec::new(alloc),
+            control: None,
+            observe: None,
+            http: None,
+            reader,
             buffer,
         })
     }
@@ -73,6 +88,18 @@ impl System {
             }
         }
         Ok(())
+    }
+
+    /// Listens on all these ports, or on none: then it gives one that can't be had.
+    pub fn bind_ports(&mut self, ports: &[u16]) -> Option<u16> {
+        let before = self.bound.len();
+        for port in ports {
+            if self.bind(*port).is_err() {
+                self.bound.truncate(before);
+                return Some(*port);
+            }
+        }
+        None
     }
 
     /// Listens on a user's port.
@@ -92,9 +119,14 @@ impl System {
     }
 
     /// Listens on a port of 127.0.0.1.
+    pub fn listen(&self, port: u16) -> io::Result<TcpListener> {
+        TcpListener::bind(&self.rt, SocketAddr::V4(listening_address(port)))
+    }
+
+    /// Listens on a port that becomes the value's.
     fn bind(&mut self, port: u16) -> Result<(), PortFault> {
         self.bound.reserve(1)?;
-        match TcpListener::bind(&self.rt, SocketAddr::V4(listening_address(port))) {
+        match self.listen(port) {
             Ok(listener) => {
                 self.bound.push_reserved(Bound { port, listener });
                 Ok(())
@@ -103,16 +135,30 @@ impl System {
         }
     }
 
-    /// Where something wasn't done, the ports that were had for it behind the first `count` are let go.
-    pub fn unbind(
-        &mut self,
-        count: usize,
-        done: Result<(), BoardRefusal>,
-    ) -> Result<(), BoardRefusal> {
-        if done.is_err() {
-            self.bound.truncate(count);
+    /// Listens at a path for whom the mode lets in, as this word asks.
+    pub fn bind_path(
+        &self,
+        word: &str,
+        path: &str,
+        mode: u32,
+    ) -> Result<ClientSocket, BoardRefusal> {
+        match ClientSocket::open(&self.rt, String::from_str(self.alloc, path)?, mode) {
+            Ok(socket) => Ok(socket),
+            Err(error) => {
+                let fault = PortFault::System(error);
+                self.checked(Err(fault.at_socket(self.alloc, word, path)))
+            }
         }
-        done
+    }
+
+    /// Lets the control clients' sockets go that didn't become the value's.
+    pub fn let_go(&mut self) {
+        if let Some(socket) = self.control.take() {
+            socket.end(&self.rt);
+        }
+        if let Some(socket) = self.observe.take() {
+            socket.end(&self.rt);
+        }
     }
 
     /// What listens on a port.

@@ -26,4 +26,4 @@ pub returns-then-is_held_at-clause-steps : goal.returns-then-is_held_at-clause-s
 returns-then-is_held_at-clause-steps c = steps_then c.args.self.now.connections.sockets c.put_off.new.self.sockets c.see_to.new.connections.sockets c.put_off.ensures.steps c.see_to.ensures.steps
 
 pub returns-clause-steps : goal.returns-clause-steps
-returns-clause-steps c = steps_then c.args.self.now.connections.sockets c.serve.new.self.connections.sockets c.see_to-2.new.connections.sockets c.serve.ensures.steps c.see_to-2.ensures.steps
+returns-clause-steps c = steps_then c.args.self.now.connections.sockets c.serve.new.self.connections.sockets c.see_to.new.connections.sockets c.serve.ensures.steps c.see_to.ensures.steps

@@ -40,6 +40,9 @@ pub struct Console {
     lines: VecDeque<u8>,
     feeds: usize,
     has_input_ended: bool,
+    /// Whether it may end while the program serves on, for control clients, and whether it has.
+    pub may_end: bool,
+    has_ended: bool,
     /// The last answer, and how much of it is written.
     answer: String,
     written: usize,
@@ -58,6 +61,8 @@ impl Console {
             lines: VecDeque::new(alloc),
             feeds: 0,
             has_input_ended: false,
+            may_end: false,
+            has_ended: false,
             answer: String::new(alloc),
             written: 0,
             rest: None,
@@ -74,6 +79,10 @@ impl Console {
 
     /// Whether something can be done at once.
     pub fn is_ready(&self) -> bool {
+        !self.has_ended && self.has_work()
+    }
+
+    fn has_work(&self) -> bool {
         (self.has_input && self.may_read())
             || (self.has_output && !self.is_answered())
             || (self.is_answered() && (self.rest.is_some() || !self.may_read()))
@@ -89,8 +98,27 @@ impl Console {
     }
 
     /// Reads and writes, once each, where they are ready, and has the poll tell of them again. An `Err` is want of memory,
-    /// or that standard output can't be written.
+    /// or that standard output can't be written: where it may end it has then.
     pub fn serve<I: Read, O: Write>(
+        &mut self,
+        registry: &Registry,
+        input: &mut I,
+        output: &mut O,
+        buffer: &mut [u8],
+    ) -> Result<(), ServerFault> {
+        if self.has_ended {
+            return Ok(());
+        }
+        match self.serve_once(registry, input, output, buffer) {
+            Err(ServerFault::CannotWrite) if self.may_end => {
+                self.has_ended = true;
+                Ok(())
+            }
+            served => served,
+        }
+    }
+
+    fn serve_once<I: Read, O: Write>(
         &mut self,
         registry: &Registry,
         input: &mut I,
@@ -137,12 +165,16 @@ impl Console {
     }
 
     /// What the next line asks for, where one is whole and the one before is answered. The end of the input asks for a
-    /// stop.
+    /// stop, unless it may end.
     pub fn next(
         &mut self,
         alloc: Global,
     ) -> Result<Option<Result<Command, ConsoleFault>>, ServerFault> {
-        if !self.is_answered() || self.rest.is_some() || self.may_read() {
+        if self.has_ended || !self.is_answered() || self.rest.is_some() || self.may_read() {
+            return Ok(None);
+        }
+        if self.may_end && self.feeds == 0 {
+            self.has_ended = true;
             return Ok(None);
         }
         self.feeds = self.feeds.saturating_sub(1);

@@ -64,7 +64,7 @@ pub fn done_by(alloc: Global, act: &Act) -> Result<Option<String>, AllocError> {
     Ok(Some(told))
 }
 
-/// The port of a place, 0 where it has none.
+/// The port of a place; 0 of the sockets of control clients.
 pub fn port_of(place: Place) -> u16 {
     match place {
         Place::Port { port, .. } | Place::Door { port, .. } | Place::Health { port } => port,
