@@ -17,3 +17,11 @@ is_removed cs conference user = option_map_or (λ c. list_any (nat_eq user) c.re
 -- The same users of the same conferences are let in.
 abbrev pub SameUsers : Conferences → Conferences → Type 0
 SameUsers old new = (conference user : ℕ) → is_removed new conference user ≡ is_removed old conference user
+
+-- it is held: no event of it is to be taken
+abbrev pub is_held : Conferences → ℕ → Bool
+is_held cs conference = option_map_or (λ c. c.is_held) (conference_at cs conference) false
+
+-- The same conferences are held.
+abbrev pub SameHeld : Conferences → Conferences → Type 0
+SameHeld old new = (conference : ℕ) → is_held new conference ≡ is_held old conference

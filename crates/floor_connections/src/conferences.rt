@@ -2,7 +2,7 @@
 
 ghost use Rattle.std.specs.Prelude.{◌≡◌, ◌&&◌, ℕ, None, OnErr, OnOk, Some, false, nat_eq, true};
 ghost use Rattle.std.specs.List.{list_any};
-ghost use Rattle.floor_connections.specs.Conferences.{SameUsers, conference_at, is_removed};
+ghost use Rattle.floor_connections.specs.Conferences.{SameHeld, SameUsers, conference_at, is_held, is_removed};
 ghost use Rattle.floor_connections.specs.declared.conferences.Conference.{Conference as Known};
 
 use indexmap::IndexMap;
@@ -11,12 +11,13 @@ use std::alloc::{AllocError, Global};
 use std::mem;
 
 /// A conference: the group of its turns, the slots of its listeners, whether it was told that it has ended or is broken
-/// off, and its users who were shown out.
+/// off, whether it is held, and its users who were shown out.
 #[derive(Drop)]
 struct Conference {
     group: usize,
     listeners: Vec<usize>,
     is_over: bool,
+    is_held: bool,
     removed: Vec<u16>,
 }
 
@@ -44,6 +45,7 @@ impl Conferences {
     /// One more, unless there is one with the number. Gives its group.
     pub fn add(&mut self, conference: u32) -> Result<usize, AllocError>
         ensures users { SameUsers self.old self.new }
+        ensures held { SameHeld self.old self.new }
     {
         if let Some(item) = self.items.get(&conference) {
             return Ok(item.group);
@@ -57,6 +59,7 @@ impl Conferences {
                 group,
                 listeners: Vec::new(self.alloc),
                 is_over: false,
+                is_held: false,
                 removed: Vec::new(self.alloc),
             },
         );
@@ -79,6 +82,7 @@ impl Conferences {
     /// A listener of a conference, where there is one with the number.
     pub fn add_listener(&mut self, conference: u32, slot: usize) -> Result<(), AllocError>
         ensures users { SameUsers self.old self.new }
+        ensures held { SameHeld self.old self.new }
     {
         match self.items.get_mut(&conference) {
             Some(item) => {
@@ -92,6 +96,7 @@ impl Conferences {
     /// A slot isn't one of a conference's listeners any more.
     pub fn remove_listener(&mut self, conference: u32, slot: usize)
         ensures users { SameUsers self.old self.new }
+        ensures held { SameHeld self.old self.new }
     {
         if let Some(item) = self.items.get_mut(&conference) {
             item.listeners.retain(|other| *other != slot);
@@ -101,6 +106,7 @@ impl Conferences {
     /// The slots of the listeners of a conference, which aren't its any more.
     pub fn take_listeners(&mut self, conference: u32) -> Vec<usize>
         ensures users { SameUsers self.old self.new }
+        ensures held { SameHeld self.old self.new }
     {
         let mut listeners = Vec::new(self.alloc);
         if let Some(item) = self.items.get_mut(&conference) {
@@ -112,6 +118,7 @@ impl Conferences {
     /// A conference has ended or is broken off. Says whether it wasn't known.
     pub fn end(&mut self, conference: u32) -> bool
         ensures users { SameUsers self.old self.new }
+        ensures held { SameHeld self.old self.new }
     {
         match self.items.get_mut(&conference) {
             Some(item) => !mem::replace(&mut item.is_over, true),
@@ -126,6 +133,7 @@ impl Conferences {
         ensures others { (c u : ℕ) → (nat_eq conference c && nat_eq user u) ≡ false
             → is_removed self.new c u ≡ is_removed self.old c u }
         ensures left { OnErr result (SameUsers self.old self.new) }
+        ensures held { SameHeld self.old self.new }
     {
         if self.is_banned(conference, user) {
             return Ok(());
@@ -144,6 +152,7 @@ impl Conferences {
         ensures took { is_removed self.new conference user ≡ false }
         ensures others { (c u : ℕ) → (nat_eq conference c && nat_eq user u) ≡ false
             → is_removed self.new c u ≡ is_removed self.old c u }
+        ensures held { SameHeld self.old self.new }
     {
         if let Some(item) = self.items.get_mut(&conference) {
             let_in_again(&mut item.removed, user);
@@ -157,6 +166,49 @@ impl Conferences {
         match self.items.get(&conference) {
             Some(item) => item.removed.contains(&user),
             None => false,
+        }
+    }
+
+    /// A conference is held: no event of it is to be taken.
+    pub fn hold(&mut self, conference: u32)
+        ensures took { (c : Known) → conference_at self.old conference ≡ Some c
+            → is_held self.new conference ≡ true }
+        ensures others { (c : ℕ) → nat_eq conference c ≡ false
+            → is_held self.new c ≡ is_held self.old c }
+        ensures users { SameUsers self.old self.new }
+    {
+        if let Some(item) = self.items.get_mut(&conference) {
+            item.is_held = true;
+        }
+    }
+
+    /// It isn't held any more.
+    pub fn let_go(&mut self, conference: u32)
+        ensures took { is_held self.new conference ≡ false }
+        ensures others { (c : ℕ) → nat_eq conference c ≡ false
+            → is_held self.new c ≡ is_held self.old c }
+        ensures users { SameUsers self.old self.new }
+    {
+        if let Some(item) = self.items.get_mut(&conference) {
+            item.is_held = false;
+        }
+    }
+
+    /// Whether a conference is held.
+    pub fn is_held(&self, conference: u32) -> bool
+        ensures value { result ≡ is_held self.now conference }
+    {
+        match self.items.get(&conference) {
+            Some(item) => item.is_held,
+            None => false,
+        }
+    }
+
+    /// The slots of the listeners of a conference.
+    pub fn listeners(&self, conference: u32) -> &[usize] {
+        match self.items.get(&conference) {
+            Some(item) => item.listeners.as_slice(),
+            None => &[],
         }
     }
 

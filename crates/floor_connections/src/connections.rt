@@ -7,7 +7,7 @@ ghost use Rattle.floor_sockets.specs.declared.role.Role.TheVariants.{MemberByDoo
 ghost use Rattle.floor_connections.specs.Asked.{accepts, is_ending};
 ghost use Rattle.floor_connections.specs.Ports.{HasPort, IsAdded, KeepsPorts};
 ghost use Rattle.floor_connections.specs.Steps.{Steps};
-ghost use Rattle.floor_connections.specs.Table.{IsWanted, OthersStay, Same, ended, is_at_door, listener_of, peer_of, shut_deed, socket_at, turned, wanted};
+ghost use Rattle.floor_connections.specs.Table.{IsWanted, OthersStay, Same, ended, is_at_door, listener_of, peer_of, reads_nobody, shut_deed, socket_at, turned, wanted};
 ghost use Rattle.floor_connections.specs.declared.departure.Departure.TheVariants as departures;
 ghost use Rattle.floor_connections.specs.declared.place.Peer.{Peer as Guest};
 ghost use Rattle.floor_connections.specs.declared.place.Place.TheVariants as places;
@@ -46,6 +46,10 @@ pub struct Connections {
     untold: u64,
     /// Members that are to be shut, since nothing is lent to them.
     leaving: VecDeque<usize>,
+    /// Who was named at a door, and waits since its conference is held.
+    pub(crate) waiting: VecDeque<usize>,
+    /// Conferences that aren't held any more, and of which members may have gone meanwhile.
+    pub(crate) parting: VecDeque<u32>,
     /// Who is away, by its connection's number, as far as memory was had for it.
     away: IndexMap<u64, Who>,
     /// How late it is, in microseconds.
@@ -67,6 +71,8 @@ impl Connections {
             entries: VecDeque::new(alloc),
             untold: 0,
             leaving: VecDeque::new(alloc),
+            waiting: VecDeque::new(alloc),
+            parting: VecDeque::new(alloc),
             away: IndexMap::new(alloc),
             time: 0,
         }
@@ -268,6 +274,8 @@ impl Connections {
 
     /// What is to be listened on next, where anything may be.
     pub fn next_wanted(&mut self, is_serving: bool) -> Option<Deed>
+        ensures listens { IfSome result (λ d. reads_nobody d ≡ true) }
+        ensures conferences { self.new.conferences ≡ self.old.conferences }
         ensures steps { Steps self.old.sockets self.new.sockets }
     {
         let listener = self.wanted.pop_front()?;
@@ -454,6 +462,7 @@ impl Connections {
 
     /// A member stays, away. Where memory is refused it isn't told when its user is back.
     pub fn note_away(&mut self, number: ConnNo, who: Who)
+        ensures conferences { self.new.conferences ≡ self.old.conferences }
         ensures sockets { self.new.sockets ≡ self.old.sockets }
         ensures table { self.new.table ≡ self.old.table }
     {
@@ -462,6 +471,7 @@ impl Connections {
 
     /// A member that was away has left: who it was, where memory was had for that.
     pub fn forget_away(&mut self, number: ConnNo) -> Option<Who>
+        ensures conferences { self.new.conferences ≡ self.old.conferences }
         ensures sockets { self.new.sockets ≡ self.old.sockets }
         ensures table { self.new.table ≡ self.old.table }
     {
@@ -567,6 +577,7 @@ impl Connections {
     /// Who is to be shut next, since nothing was lent to it, once whoever else is due was shut: so what their leaves tell
     /// it is written first.
     pub fn next_leaving(&mut self) -> Option<usize>
+        ensures conferences { self.new.conferences ≡ self.old.conferences }
         ensures sockets { self.new.sockets ≡ self.old.sockets }
     {
         if self.leaving.is_empty() || self.has_due() {
@@ -628,6 +639,7 @@ impl Connections {
         ensures gone { socket_at self.new.table slot ≡ None }
         ensures others { OthersStay slot self.old.table self.new.table }
         ensures shut { Does (Shut slot) self.old.sockets self.new.sockets }
+        ensures conferences { self.new.conferences ≡ self.old.conferences }
         ensures steps { Steps self.old.sockets self.new.sockets }
     {
         self.table.remove(slot);

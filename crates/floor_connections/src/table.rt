@@ -6,14 +6,15 @@ ghost use Rattle.floor_doors.specs.declared.refusal.DoorRefusal.TheVariants as r
 ghost use Rattle.floor_doors.specs.Follows.{follows};
 ghost use Rattle.floor_doors.specs.Newcomer.{Newcomer as Awaited};
 ghost use Rattle.floor_proxy.specs.Header.{proxy};
-ghost use Rattle.floor_connections.specs.Table.{OthersStay, Same, client_of, ended, is_at_door, is_member, leaving, listener_of, members_in, peer_of, socket_at, staged, turned};
+ghost use Rattle.floor_connections.specs.Table.{OthersStay, Same, client_of, ended, is_at_door, is_gone, is_member, leaving, left, listener_of, members_in, peer_of, socket_at, staged, turned, waiting_of};
 ghost use Rattle.floor_connections.specs.declared.place.Peer.{Peer as Who};
-ghost use Rattle.floor_connections.specs.declared.table.Socket.TheVariants.{AtDoor, Member};
+ghost use Rattle.floor_connections.specs.declared.table.Socket.TheVariants.{AtDoor, Member, Waiting};
 
 use crate::departure::Departure;
 use crate::place::{Peer, Place};
 use floor_doors::{Newcomer, Verdict};
 use std::alloc::{AllocError, Global};
+use std::mem;
 
 /// How far a listener is.
 #[derive(Clone, Copy, Debug, PartialEq, Eq)]
@@ -36,6 +37,15 @@ pub struct Listener {
     pub stage: Stage,
 }
 
+/// Who somebody at a door is, and what came of it last: behind so many of these bytes stand its own.
+#[derive(Drop)]
+pub struct Named {
+    pub conference: u32,
+    pub user: u16,
+    pub bytes: Vec<u8>,
+    pub at: usize,
+}
+
 /// Who is at a socket.
 #[derive(Drop)]
 pub enum Socket {
@@ -50,6 +60,16 @@ pub enum Socket {
     Turned,
     /// A control client, by this place. What came of it and what is to be written to it is its caller's.
     Client(Place),
+    /// Somebody who was named at a door, and joins once its conference isn't held.
+    Waiting {
+        peer: Peer,
+        named: Named,
+    },
+    /// A member whose socket was shut, so ended, and that leaves once its conference isn't held.
+    Gone {
+        peer: Peer,
+        end: Option<Departure>,
+    },
     /// A member, how its reading ended, where it has, and whether it waits to be shut, since nothing is lent to it.
     Member {
         peer: Peer,
@@ -126,6 +146,8 @@ impl Table {
                     Socket::AtDoor { .. }
                     | Socket::Turned
                     | Socket::Client(_)
+                    | Socket::Waiting { .. }
+                    | Socket::Gone { .. }
                     | Socket::Member { .. },
                 )
                 | None,
@@ -157,6 +179,8 @@ impl Table {
                 Socket::AtDoor { .. }
                 | Socket::Turned
                 | Socket::Client(_)
+                | Socket::Waiting { .. }
+                | Socket::Gone { .. }
                 | Socket::Member { .. } => {}
             }
         }
@@ -168,6 +192,8 @@ impl Table {
     {
         match self.slots.get(slot) {
             Some(Some(Socket::AtDoor { peer, .. })) => Some(*peer),
+            Some(Some(Socket::Waiting { peer, .. })) => Some(*peer),
+            Some(Some(Socket::Gone { peer, .. })) => Some(*peer),
             Some(Some(Socket::Member { peer, .. })) => Some(*peer),
             Some(Some(Socket::Listener(_) | Socket::Turned | Socket::Client(_)) | None) | None =>
                 None,
@@ -192,8 +218,12 @@ impl Table {
         match place {
             Some(socket) => match socket {
                 Socket::AtDoor { newcomer, .. } => newcomer.came(bytes),
-                Socket::Listener(_) | Socket::Turned | Socket::Client(_) | Socket::Member { .. } =>
-                    Verdict::LetGo,
+                Socket::Listener(_)
+                | Socket::Turned
+                | Socket::Client(_)
+                | Socket::Waiting { .. }
+                | Socket::Gone { .. }
+                | Socket::Member { .. } => Verdict::LetGo,
             },
             None => Verdict::LetGo,
         }
@@ -211,6 +241,8 @@ impl Table {
                     Socket::Listener(_)
                     | Socket::Turned
                     | Socket::Client(_)
+                    | Socket::Waiting { .. }
+                    | Socket::Gone { .. }
                     | Socket::Member { .. },
                 )
                 | None,
@@ -248,7 +280,9 @@ impl Table {
                     Socket::Listener(_)
                     | Socket::AtDoor { .. }
                     | Socket::Turned
-                    | Socket::Client(_),
+                    | Socket::Client(_)
+                    | Socket::Waiting { .. }
+                    | Socket::Gone { .. },
                 )
                 | None,
             )
@@ -271,8 +305,12 @@ impl Table {
                     *is_leaving = leaves;
                     is_new
                 }
-                Socket::Listener(_) | Socket::AtDoor { .. } | Socket::Turned | Socket::Client(_) =>
-                    false,
+                Socket::Listener(_)
+                | Socket::AtDoor { .. }
+                | Socket::Turned
+                | Socket::Client(_)
+                | Socket::Waiting { .. }
+                | Socket::Gone { .. } => false,
             },
             None => false,
         }
@@ -305,8 +343,12 @@ impl Table {
                         *end = Some(departure);
                     }
                 }
-                Socket::Listener(_) | Socket::AtDoor { .. } | Socket::Turned | Socket::Client(_) =>
-                    {}
+                Socket::Listener(_)
+                | Socket::AtDoor { .. }
+                | Socket::Turned
+                | Socket::Client(_)
+                | Socket::Waiting { .. }
+                | Socket::Gone { .. } => {}
             }
         }
     }
@@ -315,7 +357,114 @@ impl Table {
     pub fn end_of(&self, slot: usize) -> Option<Departure> {
         match self.slots.get(slot) {
             Some(Some(Socket::Member { end, .. })) => *end,
+            Some(Some(Socket::Gone { end, .. })) => *end,
             _ => None,
+        }
+    }
+
+    /// Somebody at a door, or whoever has connected else and wasn't turned away, was named so, and waits.
+    pub fn wait(&mut self, slot: usize, named: Named)
+        ensures here { (peer : Who) → peer_of (socket_at self.old slot) ≡ Some peer
+            → socket_at self.new slot ≡ Some (Waiting peer named) }
+        ensures none { peer_of (socket_at self.old slot) ≡ None → Same self.old self.new }
+        ensures others { OthersStay slot self.old self.new }
+    {
+        if let Some(peer) = self.peer(slot) {
+            if let Some(place) = self.slots.get_mut(slot) {
+                *place = Some(Socket::Waiting { peer, named });
+            }
+        }
+    }
+
+    /// The conference of who was named at a door and waits.
+    pub fn waiting(&self, slot: usize) -> Option<u32>
+        ensures value { result ≡ option_map (λ n. n.conference) (waiting_of (socket_at self.now slot)) }
+    {
+        match self.slots.get(slot) {
+            Some(Some(Socket::Waiting { named, .. })) => Some(named.conference),
+            Some(
+                Some(
+                    Socket::Listener(_)
+                    | Socket::AtDoor { .. }
+                    | Socket::Turned
+                    | Socket::Client(_)
+                    | Socket::Gone { .. }
+                    | Socket::Member { .. },
+                )
+                | None,
+            )
+            | None => None,
+        }
+    }
+
+    /// Who was named and waits doesn't any more: it is taken for a member, and who it is and what came of it is given.
+    pub fn take_waiting(&mut self, slot: usize) -> Option<Named>
+        ensures value { result ≡ waiting_of (socket_at self.old slot) }
+        ensures peer { peer_of (socket_at self.new slot) ≡ peer_of (socket_at self.old slot) }
+        ensures others { OthersStay slot self.old self.new }
+    {
+        match self.waiting(slot) {
+            Some(_) => {}
+            None => return None,
+        }
+        let peer = self.peer(slot)?;
+        let place = self.slots.get_mut(slot)?;
+        let member = Socket::Member {
+            peer,
+            end: None,
+            is_leaving: false,
+        };
+        match mem::replace(place, Some(member)) {
+            Some(Socket::Waiting { named, .. }) => Some(named),
+            _ => None,
+        }
+    }
+
+    /// The socket of a member was shut, and the member hasn't left yet.
+    pub fn go(&mut self, slot: usize)
+        ensures here { socket_at self.new slot ≡ option_map left (socket_at self.old slot) }
+        ensures others { OthersStay slot self.old self.new }
+    {
+        let Some(place) = self.slots.get_mut(slot) else {
+            return;
+        };
+        if let Some(socket) = place {
+            match socket {
+                Socket::Member { peer, end, .. } => {
+                    let gone = Socket::Gone {
+                        peer: *peer,
+                        end: *end,
+                    };
+                    *socket = gone;
+                }
+                Socket::Listener(_)
+                | Socket::AtDoor { .. }
+                | Socket::Turned
+                | Socket::Client(_)
+                | Socket::Waiting { .. }
+                | Socket::Gone { .. } => {}
+            }
+        }
+    }
+
+    /// Whether there is a member whose socket was shut.
+    pub fn is_gone(&self, slot: usize) -> bool
+        ensures value { result ≡ is_gone (socket_at self.now slot) }
+    {
+        match self.slots.get(slot) {
+            Some(Some(Socket::Gone { .. })) => true,
+            Some(
+                Some(
+                    Socket::Listener(_)
+                    | Socket::AtDoor { .. }
+                    | Socket::Turned
+                    | Socket::Client(_)
+                    | Socket::Waiting { .. }
+                    | Socket::Member { .. },
+                )
+                | None,
+            )
+            | None => false,
         }
     }
 
@@ -330,6 +479,8 @@ impl Table {
                     Socket::Listener(_)
                     | Socket::Turned
                     | Socket::Client(_)
+                    | Socket::Waiting { .. }
+                    | Socket::Gone { .. }
                     | Socket::Member { .. },
                 )
                 | None,
@@ -349,6 +500,8 @@ impl Table {
                     Socket::Listener(_)
                     | Socket::AtDoor { .. }
                     | Socket::Turned
+                    | Socket::Waiting { .. }
+                    | Socket::Gone { .. }
                     | Socket::Member { .. },
                 )
                 | None,

@@ -23,7 +23,7 @@ use Rattle.floor_meetings.specs.Joined.{LeftBy}
 use Rattle.floor_meetings.specs.Laws.{TakenIsCalledFor}
 use Rattle.floor_meetings.specs.Meetings.{lent_at, member_at}
 use Rattle.floor_meetings.specs.Members.{Members, slot_of}
-use Rattle.floor_meetings.specs.Runs.{Call, Does, Frees, IsLiving, Lives, Open, Forget, Acts, Says, Keep, MakeRoom, Join, Refused, Came, Ended, Failed, Left, Took, Ready, Due, Discard, LeaveAway, bytes_by, taken_by}
+use Rattle.floor_meetings.specs.Runs.{Call, Does, Frees, IsLiving, Lives, Open, Forget, Acts, Says, Keep, MakeRoom, Join, Refused, Came, Ended, Failed, Left, Took, Ready, Due, Discard, LeaveAway, LeaveAt, bytes_by, taken_by}
 use Rattle.floor_meetings.specs.steps.Lived.{Led}
 use Rattle.floor_meetings.proofs.Pairing.{Tells, one_slot}
 use Rattle.floor_meetings.proofs.Running.{led-both, led-same, led-timed, one-call, run-append}
@@ -97,6 +97,10 @@ module _ (slot : ℕ) (member : Member) (old new : Meetings) (was : IsLiving slo
   leaves n None d = quiet (AtMost 1 (step.Leave n)) d.quiet
   leaves n (Some k) e = led-same member.number old.hub new.hub e
 
+  leaves-at : (o : Option Member) → MatchOption o (new.hub ≡ old.hub) (λ m. Leaves m.number old.hub new.hub) → Led member.number old.hub new.hub []
+  leaves-at None e = led-same member.number old.hub new.hub e
+  leaves-at (Some m) d = quiet (AtMost 1 (step.Leave m.number)) d.quiet
+
   abbrev count_of : ℕ → ℕ → ℕ
   count_of k count = min count (length (lent_at old k))
 
@@ -140,6 +144,7 @@ module _ (slot : ℕ) (member : Member) (old new : Meetings) (was : IsLiving slo
   led (Due now) d = led-timed member.number (max old.hub.attended.time now) old.hub new.hub d.1 d.2 is.live is.serving
   led (Discard n) d = drops n (slot_of old.members n) refl d.1
   led (LeaveAway n) d = leaves n (slot_of old.members n) d.1
+  led (LeaveAt k) d = leaves-at (member_at old k) d.1
 
 -- all calls of a life
 led-all : (slot : ℕ) (member : Member) (calls : List Call) (first last : Meetings) → IsLiving slot member first → Lives slot member calls first last → Led member.number first.hub last.hub (bytes_by slot calls)

@@ -25,7 +25,7 @@ use Rattle.floor_meetings.specs.Joined.{Joins, LeftBy}
 use Rattle.floor_meetings.specs.Laws.{JoinsAreApart, OthersStay}
 use Rattle.floor_meetings.specs.Meetings.{member_at}
 use Rattle.floor_meetings.specs.Members.{IsPaired, Members, member_in, slot_of}
-use Rattle.floor_meetings.specs.Runs.{Call, Calls, Does, Open, Forget, Acts, Says, Keep, MakeRoom, Join, Refused, Came, Ended, Failed, Left, Took, Ready, Due, Discard, LeaveAway}
+use Rattle.floor_meetings.specs.Runs.{Call, Calls, Does, Open, Forget, Acts, Says, Keep, MakeRoom, Join, Refused, Came, Ended, Failed, Left, Took, Ready, Due, Discard, LeaveAway, LeaveAt}
 use Rattle.floor_meetings.proofs.Pairing.{Tells, one_member}
 
 -- arrivals don't get fewer
@@ -113,6 +113,10 @@ module _ (old new : Loop) where
   leaves n None d = went-by (AtMost 1 (step.Leave n)) old new d.quiet.steps
   leaves n (Some k) e = went-none old new e
 
+  leaves-at : (o : Option Member) → MatchOption o (new ≡ old) (λ m. Leaves m.number old new) → Went old new
+  leaves-at None e = went-none old new e
+  leaves-at (Some m) d = went-by (AtMost 1 (step.Leave m.number)) old new d.quiet.steps
+
 -- each call
 went : (c : Call) (old new : Meetings) → Does c old new → Went old.hub new.hub
 went (Open config) old new d = went-by (AtMost 1 (step.Open config)) old.hub new.hub d.1.steps
@@ -132,6 +136,7 @@ went Ready old new d = went-by NoSteps old.hub new.hub d.1.steps
 went (Due now) old new d = went-same old.hub new.hub d.1
 went (Discard n) old new d = drops old.hub new.hub n (slot_of old.members n) d.1
 went (LeaveAway n) old new d = leaves old.hub new.hub n (slot_of old.members n) d.1
+went (LeaveAt k) old new d = leaves-at old.hub new.hub (member_at old k) d.1
 
 -- a number that has a connection is one of the arrivals'
 
@@ -212,6 +217,7 @@ keeps Ready w v old new i paired stands d = keeps-all v old new d.0
 keeps (Due now) w v old new i paired stands d = keeps-all v old new d.0
 keeps (Discard n) w v old new i paired stands d = keeps-all v old new d.0
 keeps (LeaveAway n) w v old new i paired stands d = keeps-all v old new d.0
+keeps (LeaveAt k) w v old new i paired stands d = frees v k old new d.0.free d.0.others
 
 -- so it stays
 record Within (m : Meetings) (least : ℕ) : Type 0 where

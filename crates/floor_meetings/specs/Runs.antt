@@ -34,6 +34,7 @@ pub data Call : Type 0 where
   Due : (now : ℕ) → Call
   Discard : (number : ℕ) → Call
   LeaveAway : (number : ℕ) → Call
+  LeaveAt : (slot : ℕ) → Call
 
 -- each slot's member is as it was
 abbrev pub Same : Meetings → Meetings → Type 0
@@ -64,6 +65,7 @@ Does Ready old new = Same old new × Quiet NoSteps old.hub new.hub
 Does (Due now) old new = Same old new × (new.hub.hub ≡ old.hub.hub) × (new.hub.attended ≡ record old.hub.attended { time = max old.hub.attended.time now })
 Does (Discard number) old new = Same old new × MatchOption (slot_of old.members number) (Drops number old.hub new.hub) (λ slot. new.hub ≡ old.hub)
 Does (LeaveAway number) old new = Same old new × MatchOption (slot_of old.members number) (Leaves number old.hub new.hub) (λ slot. new.hub ≡ old.hub)
+Does (LeaveAt slot) old new = Frees slot old new × MatchOption (member_at old slot) (new.hub ≡ old.hub) (λ m. Leaves m.number old.hub new.hub)
 
 -- These calls, one after another, led from the first value to the last.
 abbrev pub Calls : List Call → Meetings → Meetings → Type 0

@@ -55,7 +55,7 @@ pub enum Due {
 /// - Conferences: `open`, `act`, `say`, `forget`; `hub` lends the loop, by which they are read. `begin_keeping`, `keep` and
 ///   `end_keeping` say how many of its events are kept.
 /// - A socket's life: `join`, behind `check` and `make_room`; `came` as bytes come, and `serve` while that says that more may wait;
-///   `ended` and `failed` at the end of the stream and of the socket; `left` once the socket was shut.
+///   `ended` and `failed` at the end of the stream and of the socket; `left` once the socket was shut, or `leave`.
 /// - Writing: `ready` names who has something to be written, `lent` lends it, and `took` takes it that the socket took
 ///   so much of it.
 /// - Shutting down: a socket that has an `until` is to be shut down once nothing is lent to it, and by that time; `due`
@@ -330,8 +330,6 @@ impl Meetings {
             (λ m. Parts m.number now self.old.hub self.new.hub result) }
         ensures nobody { member_at self.old slot ≡ None → result ≡ Ok false }
         ensures free { member_at self.new slot ≡ None }
-        ensures gone { (m : Known) → member_at self.old slot ≡ Some m
-            → slot_of self.new.members m.number ≡ None }
         ensures others { (k : ℕ) → nat_eq slot k ≡ false
             → member_at self.new k ≡ member_at self.old k }
         ensures bounds { self.new.bounds ≡ self.old.bounds }
@@ -343,6 +341,23 @@ impl Meetings {
             }
             None => Ok(false),
         }
+    }
+
+    /// The member in a slot leaves at once, and doesn't stay, away. Its life ends, and the slot is free, also where the hub
+    /// refuses the leave.
+    pub fn leave(&mut self, slot: usize, now: u64) -> Result<(), HubRefusal>
+        ensures took { MatchOption (member_at self.old slot) (self.new.hub ≡ self.old.hub)
+            (λ m. Leaves m.number self.old.hub self.new.hub) }
+        ensures free { member_at self.new slot ≡ None }
+        ensures others { (k : ℕ) → nat_eq slot k ≡ false
+            → member_at self.new k ≡ member_at self.old k }
+        ensures bounds { self.new.bounds ≡ self.old.bounds }
+    {
+        let Some(member) = self.members.get(slot) else {
+            return Ok(());
+        };
+        self.members.remove(slot);
+        leave(&mut self.hub, member.number, now)
     }
 
     /// What is to be written to the socket in a slot, 64 KiB at most.

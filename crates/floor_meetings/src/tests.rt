@@ -309,6 +309,12 @@ fn a_member_outlives_its_socket(rt: HostRuntime) -> Result<(), AllocError> {
     assert_eq!(rt; meetings.leave_away(1, 1_000), Ok(()));
     assert_eq!(rt; meetings.due(1_000), None);
     assert_eq!(rt; meetings.make_room(alloc, 1, 10, 1_000), None);
+    // One that leaves at once doesn't stay.
+    assert_eq!(rt; join(&mut meetings, alloc, 0, 1, 10), "Ok");
+    assert_eq!(rt; meetings.leave(0, 1_000), Ok(()));
+    assert_eq!(rt; meetings.get(0).is_some(), false);
+    assert_eq!(rt; meetings.due(9_000), None);
+    assert_eq!(rt; meetings.leave(0, 9_000), Ok(()));
     Ok(())
 }
 

@@ -26,6 +26,8 @@ by_deed slot (Some (socket.Listener l)) d is other = by_stage slot l.stage d is 
 by_deed slot (Some (socket.AtDoor peer newcomer)) d is other = inl is
 by_deed slot (Some socket.Turned) d is other = inl is
 by_deed slot (Some (socket.Client place)) d is other = inl is
+by_deed slot (Some (socket.Waiting peer named)) d is other = inl is
+by_deed slot (Some (socket.Gone peer end)) d is other = inl is
 by_deed slot (Some (socket.Member peer end is_leaving)) d is other = inl is
 
 same_slot : (slot k : ℕ) → ◌≡◌ {A = Option Asked} (Some (asked.Shut slot)) (Some (asked.Shut k)) → slot ≡ k

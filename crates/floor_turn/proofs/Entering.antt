@@ -34,7 +34,7 @@ pub not_there : (o : Option Room) → ((r : Room) → o ≡ Some r → ⊥) → 
 not_there None none = refl
 not_there (Some r) none = absurd (none r refl)
 
-no_ok : {X : Type 0} (x : X) (e : HubRefusal) → ◌≡◌ {A = Result X HubRefusal} (Ok x) (Err e) → ⊥
+pub no_ok : {X : Type 0} (x : X) (e : HubRefusal) → ◌≡◌ {A = Result X HubRefusal} (Ok x) (Err e) → ⊥
 no_ok x e same = cc
 
 -- of what was found there is a room
@@ -56,6 +56,8 @@ member_ended d (Some (socket.Listener l)) = refl
 member_ended d (Some (socket.AtDoor peer newcomer)) = refl
 member_ended d (Some socket.Turned) = refl
 member_ended d (Some (socket.Client place)) = refl
+member_ended d (Some (socket.Waiting peer named)) = refl
+member_ended d (Some (socket.Gone peer end)) = refl
 member_ended d (Some (socket.Member peer end is_leaving)) = refl
 
 pub kept_members : (slot : ℕ) (d : Departure) (old new : Table) → socket_at new slot ≡ option_map (ended d) (socket_at old slot) → OthersStay slot old new → (k : ℕ) → is_member (socket_at new k) ≡ is_member (socket_at old k)
@@ -74,6 +76,8 @@ door_peer (Some (socket.Listener l)) at = never ((peer : Peer) × (peer_of (Some
 door_peer (Some (socket.AtDoor peer newcomer)) at = (peer, refl)
 door_peer (Some socket.Turned) at = never ((peer : Peer) × (peer_of (Some socket.Turned) ≡ Some peer)) at
 door_peer (Some (socket.Client place)) at = never ((peer : Peer) × (peer_of (Some (socket.Client place)) ≡ Some peer)) at
+door_peer (Some (socket.Waiting peer named)) at = never ((other : Peer) × (peer_of (Some (socket.Waiting peer named)) ≡ Some other)) at
+door_peer (Some (socket.Gone peer end)) at = never ((other : Peer) × (peer_of (Some (socket.Gone peer end)) ≡ Some other)) at
 door_peer (Some (socket.Member peer end is_leaving)) at = never ((other : Peer) × (peer_of (Some (socket.Member peer end is_leaving)) ≡ Some other)) at
 
 -- what is said of a header comes true, unless memory was refused for it

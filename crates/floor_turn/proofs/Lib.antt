@@ -6,3 +6,4 @@ pub mod Resting
 pub mod Ending
 pub mod Entering
 pub mod Deeds
+pub mod Sparing

@@ -14,13 +14,13 @@ use Rattle.floor_meetings.specs.Meetings.{member_at}
 use Rattle.floor_meetings.specs.Runs.{Came, Does, MakeRoom}
 use Rattle.floor_sockets.specs.Sockets.{life_at}
 use Rattle.floor_connections.specs.Asked.{is_ending}
-use Rattle.floor_connections.specs.Conferences.{is_removed}
+use Rattle.floor_connections.specs.Conferences.{is_held, is_removed}
 use Rattle.floor_connections.specs.declared.conferences.Conferences.{Conferences}
 use Rattle.floor_connections.specs.declared.connections.Connections.{Connections}
 use Rattle.floor_connections.specs.declared.refusal.Refusal.{Refusal}
 use Rattle.floor_connections.specs.declared.refusal.Refusal.TheVariants.{AtMeeting, Removed}
 use Rattle.floor_connections.specs.declared.table.Socket.TheVariants.{Turned}
-use Rattle.floor_connections.specs.Table.{is_member, socket_at}
+use Rattle.floor_connections.specs.Table.{IsWaiting, is_member, socket_at}
 use Rattle.floor_turn.specs.declared.server.Server.{Server}
 
 -- As many sockets as its configuration lets one user have are this user's in the conference.
@@ -96,3 +96,10 @@ pub record IsTurnedAway (slot : ℕ) (c : Connections) : Type 0 where
 abbrev pub EntersOrNot : ℕ → ℕ → ℕ → List ℕ → Conferences → Meetings → Server → Type 0
 EntersOrNot slot conference user bytes cs old new =
     Enters slot conference user bytes cs old new ⊎ ((why : Refusal) × IsDeclined slot conference user cs old new.meetings why × IsTurnedAway slot new.connections)
+
+-- It has joined, or it was declined and turned away. Where its conference is held nothing has changed of any meeting: it waits, with these bytes as its
+-- first, or was turned away, since memory was refused.
+abbrev pub EntersOrWaits : ℕ → ℕ → ℕ → List ℕ → Conferences → Meetings → Server → Type 0
+EntersOrWaits slot conference user bytes cs old new =
+    ((is_held cs conference ≡ false) × EntersOrNot slot conference user bytes cs old new)
+    ⊎ ((is_held cs conference ≡ true) × (new.meetings ≡ old) × (IsWaiting slot conference user bytes new.connections.table ⊎ IsTurnedAway slot new.connections))

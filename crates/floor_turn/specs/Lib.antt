@@ -5,6 +5,7 @@ pub mod Moves
 pub mod Entering
 pub mod Clients
 pub mod Touched
+pub mod Held
 pub mod Over
 pub mod Runs
 pub mod Laws

@@ -15,6 +15,8 @@ ghost use Rattle.floor_connections.specs.declared.refusal.Refusal.TheVariants.{M
 ghost use Rattle.floor_connections.specs.declared.table.Listener.{Listener as Where};
 ghost use Rattle.floor_connections.specs.declared.table.Stage.TheVariants as stages;
 ghost use Rattle.floor_turn.specs.Entering.{HasJoined, IsDeclined, IsTurnedDown, MayJoin};
+ghost use Rattle.floor_connections.specs.Conferences.{is_held};
+ghost use Rattle.floor_turn.specs.Held.{MovesFree, is_held_place};
 ghost use Rattle.floor_turn.specs.Moves.{Moves, nothing_taken};
 
 use crate::meeting::{is_full_for, phase_of, who_at};
@@ -92,6 +94,10 @@ impl Server {
             → ((why ≡ Memory) × (self.new.meetings ≡ self.old.meetings)) ⊎ ((socket : ℕ)
             × IsDeclined socket c u self.old.connections.conferences
             self.old.meetings self.new.meetings why)) }
+        ensures spares { (l : Where)
+            → listener_of (socket_at self.old.connections.table listener) ≡ Some l
+            → is_held_place self.old.connections.conferences l.place ≡ false
+            → MovesFree self.old.connections.conferences self.old.meetings self.new.meetings }
         ensures moves { Moves nothing_taken self.old.meetings self.new.meetings }
         ensures steps { Steps self.old.connections.sockets self.new.connections.sockets }
     {
@@ -151,6 +157,8 @@ impl Server {
             → ((why ≡ Memory) × (self.new.meetings ≡ self.old.meetings)) ⊎ ((socket : ℕ)
             × IsDeclined socket c u self.old.connections.conferences
             self.old.meetings self.new.meetings why)) }
+        ensures spares { is_held_place self.old.connections.conferences peer.place ≡ false
+            → MovesFree self.old.connections.conferences self.old.meetings self.new.meetings }
         ensures moves { Moves nothing_taken self.old.meetings self.new.meetings }
         ensures steps { Steps self.old.connections.sockets self.new.connections.sockets }
     {
@@ -184,6 +192,8 @@ impl Server {
             × (self.new.meetings ≡ self.old.meetings)) ⊎ ((socket : ℕ)
             × IsDeclined socket conference user self.old.connections.conferences
             self.old.meetings self.new.meetings why)) }
+        ensures spares { is_held self.old.connections.conferences conference ≡ false
+            → MovesFree self.old.connections.conferences self.old.meetings self.new.meetings }
         ensures moves { Moves nothing_taken self.old.meetings self.new.meetings }
         ensures steps { Steps self.old.connections.sockets self.new.connections.sockets }
     {
@@ -211,6 +221,8 @@ impl Server {
         ensures refused { IfErr result (IsDeclined socket conference user
             self.old.connections.conferences self.old.meetings self.new.meetings) }
         ensures table { self.new.connections.table ≡ self.old.connections.table }
+        ensures spares { is_held self.old.connections.conferences conference ≡ false
+            → MovesFree self.old.connections.conferences self.old.meetings self.new.meetings }
         ensures moves { Moves nothing_taken self.old.meetings self.new.meetings }
         ensures steps { Steps self.old.connections.sockets self.new.connections.sockets }
     {

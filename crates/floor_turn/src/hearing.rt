@@ -19,7 +19,10 @@ ghost use Rattle.floor_connections.specs.Table.{is_at_door, is_member, listener_
 ghost use Rattle.floor_connections.specs.declared.place.Peer.{Peer as Guest};
 ghost use Rattle.floor_connections.specs.declared.table.Socket.TheVariants.{AtDoor};
 ghost use Rattle.floor_connections.specs.declared.table.Listener.{Listener as Where};
-ghost use Rattle.floor_turn.specs.Entering.{EntersOrNot, IsTurnedAway};
+ghost use Rattle.floor_turn.specs.Entering.{EntersOrNot, EntersOrWaits, IsTurnedAway};
+ghost use Rattle.floor_connections.specs.Conferences.{is_held};
+ghost use Rattle.floor_connections.specs.declared.conferences.Conferences.{Conferences as Held};
+ghost use Rattle.floor_turn.specs.Held.{MovesFree, is_held_for};
 ghost use Rattle.floor_turn.specs.Moves.{Moves, nothing_taken};
 
 use crate::meeting::{broken_at, end_of_stream, touched_at};
@@ -58,7 +61,7 @@ impl Server {
             → reads (life_at self.old.connections.sockets socket) ≡ true
             → socket_at self.old.connections.table socket ≡ Some (AtDoor peer n)
             → proxy n.named_by (n.held ++ bytes.now) ≡ Ok (Named c u len)
-            → EntersOrNot socket c u (drop (len - length n.held) bytes.now)
+            → EntersOrWaits socket c u (drop (len - length n.held) bytes.now)
             self.old.connections.conferences self.old.meetings self.new
             ⊎ (IsTurnedAway socket self.new.connections × (self.new.meetings ≡ self.old.meetings)) }
         ensures wrong { (peer : Guest) (n : Awaited) (why : Wrong)
@@ -68,6 +71,9 @@ impl Server {
             → IsTurnedAway socket self.new.connections × (self.new.meetings ≡ self.old.meetings) }
         ensures not_asked { reads (life_at self.old.connections.sockets socket) ≡ false
             → self.new.meetings ≡ self.old.meetings }
+        ensures spares { is_held_for self.old.connections.conferences
+            (member_at self.old.meetings socket) ≡ false
+            → MovesFree self.old.connections.conferences self.old.meetings self.new.meetings }
         ensures moves { Moves nothing_taken self.old.meetings self.new.meetings }
         ensures steps { Steps self.old.connections.sockets self.new.connections.sockets }
     {
@@ -107,6 +113,9 @@ impl Server {
             → IsTurnedAway socket self.new.connections × (self.new.meetings ≡ self.old.meetings) }
         ensures not_asked { reads (life_at self.old.connections.sockets socket) ≡ false
             → self.new.meetings ≡ self.old.meetings }
+        ensures spares { is_held_for self.old.connections.conferences
+            (member_at self.old.meetings socket) ≡ false
+            → MovesFree self.old.connections.conferences self.old.meetings self.new.meetings }
         ensures moves { Moves nothing_taken self.old.meetings self.new.meetings }
         ensures steps { Steps self.old.connections.sockets self.new.connections.sockets }
     {
@@ -138,6 +147,9 @@ impl Server {
             → IsTurnedAway socket self.new.connections × (self.new.meetings ≡ self.old.meetings) }
         ensures not_asked { reads (life_at self.old.connections.sockets socket) ≡ false
             → self.new.meetings ≡ self.old.meetings }
+        ensures spares { is_held_for self.old.connections.conferences
+            (member_at self.old.meetings socket) ≡ false
+            → MovesFree self.old.connections.conferences self.old.meetings self.new.meetings }
         ensures moves { Moves nothing_taken self.old.meetings self.new.meetings }
         ensures steps { Steps self.old.connections.sockets self.new.connections.sockets }
     {
@@ -162,6 +174,9 @@ impl Server {
             (λ m. (r : Result Bool Refused) × Comes m.number []
             self.old.meetings.hub self.new.meetings.hub r) }
         ensures members { self.new.meetings.members ≡ self.old.meetings.members }
+        ensures spares { is_held_for self.old.connections.conferences
+            (member_at self.old.meetings socket) ≡ false
+            → MovesFree self.old.connections.conferences self.old.meetings self.new.meetings }
         ensures moves { Moves nothing_taken self.old.meetings self.new.meetings }
         ensures steps { Steps self.old.connections.sockets self.new.connections.sockets }
     {
@@ -182,6 +197,8 @@ impl Server {
             (λ m. (r : Result Bool Refused) × Comes m.number bytes.now
             self.old.meetings.hub self.new.meetings.hub r) }
         ensures members { self.new.meetings.members ≡ self.old.meetings.members }
+        ensures spares { (cs : Held) → is_held_for cs (member_at self.old.meetings socket) ≡ false
+            → MovesFree cs self.old.meetings self.new.meetings }
         ensures moves { Moves nothing_taken self.old.meetings self.new.meetings }
         ensures steps { Steps self.old.connections.sockets self.new.connections.sockets }
     {
@@ -195,7 +212,7 @@ impl Server {
         ensures entered { (peer : Guest) (c u at : ℕ)
             → peer_of (socket_at self.old.connections.table socket) ≡ Some peer
             → verdict ≡ verdicts.Enter c u at
-            → EntersOrNot socket c u (drop at bytes.now)
+            → EntersOrWaits socket c u (drop at bytes.now)
             self.old.connections.conferences self.old.meetings self.new }
         ensures let_go { (peer : Guest)
             → peer_of (socket_at self.old.connections.table socket) ≡ Some peer
@@ -205,6 +222,8 @@ impl Server {
             → peer_of (socket_at self.old.connections.table socket) ≡ Some peer
             → verdict ≡ verdicts.Refuse why
             → IsTurnedAway socket self.new.connections × (self.new.meetings ≡ self.old.meetings) }
+        ensures spares { MovesFree self.old.connections.conferences
+            self.old.meetings self.new.meetings }
         ensures moves { Moves nothing_taken self.old.meetings self.new.meetings }
         ensures steps { Steps self.old.connections.sockets self.new.connections.sockets }
     {
@@ -214,12 +233,82 @@ impl Server {
                 conference,
                 user,
                 at,
-            } => self.enter(socket, conference, user, bytes, at),
+            } => self.enter_or_wait(socket, conference, user, bytes, at),
             Verdict::LetGo => self.connections.turn_away(socket, None),
             Verdict::Refuse(refusal) => self
                 .connections
                 .turn_away(socket, Some(Refusal::AtDoor(refusal))),
         }
+    }
+
+    /// Somebody at a door is this user: it joins, or waits where its conference is held.
+    fn enter_or_wait(&mut self, socket: usize, conference: u32, user: u16, bytes: &[u8], at: usize)
+        ensures entered { (peer : Guest)
+            → peer_of (socket_at self.old.connections.table socket) ≡ Some peer
+            → EntersOrWaits socket conference user (drop at bytes.now)
+            self.old.connections.conferences self.old.meetings self.new }
+        ensures spares { MovesFree self.old.connections.conferences
+            self.old.meetings self.new.meetings }
+        ensures moves { Moves nothing_taken self.old.meetings self.new.meetings }
+        ensures steps { Steps self.old.connections.sockets self.new.connections.sockets }
+    {
+        if !self.connections.conferences.is_held(conference) {
+            self.enter(socket, conference, user, bytes, at);
+            return;
+        }
+        match self.connections.wait(socket, conference, user, bytes, at) {
+            Ok(()) => {}
+            Err(_) => self.connections.turn_away(socket, Some(Refusal::Memory)),
+        }
+    }
+
+    /// Who waits since longest of those whose conference isn't held any more joins. Says whether there was any.
+    pub(crate) fn see_to_waiting(&mut self) -> bool
+        ensures spares { MovesFree self.old.connections.conferences
+            self.old.meetings self.new.meetings }
+        ensures none { result ≡ false → (self.new.meetings ≡ self.old.meetings)
+            × (self.new.connections.conferences ≡ self.old.connections.conferences) }
+        ensures moves { Moves nothing_taken self.old.meetings self.new.meetings }
+        ensures steps { Steps self.old.connections.sockets self.new.connections.sockets }
+    {
+        let Some(socket) = self.connections.next_waiting() else {
+            return false;
+        };
+        let Some(named) = self.connections.table.take_waiting(socket) else {
+            return true;
+        };
+        self.enter_waiting(socket, &named);
+        true
+    }
+
+    /// Who waited joins as who it is, and what came of it is served.
+    fn enter_waiting(&mut self, socket: usize, named: &floor_connections::Named)
+        ensures spares { is_held self.old.connections.conferences named.now.conference ≡ false
+            → MovesFree self.old.connections.conferences self.old.meetings self.new.meetings }
+        ensures moves { Moves nothing_taken self.old.meetings self.new.meetings }
+        ensures steps { Steps self.old.connections.sockets self.new.connections.sockets }
+    {
+        match self.join(socket, named.conference, named.user) {
+            Ok(()) => self.hear_waiting(socket, named),
+            Err(refusal) => self.connections.turn_away(socket, Some(refusal)),
+        }
+    }
+
+    /// Who waited has joined: what came of it is served, and then it is read.
+    fn hear_waiting(&mut self, socket: usize, named: &floor_connections::Named)
+        ensures heard { (r : Result Bool Refused)
+            × Does (Came socket (drop named.now.at named.now.bytes.items) r)
+            self.old.meetings self.new.meetings }
+        ensures spares { (cs : Held) → is_held_for cs (member_at self.old.meetings socket) ≡ false
+            → MovesFree cs self.old.meetings self.new.meetings }
+        ensures moves { Moves nothing_taken self.old.meetings self.new.meetings }
+        ensures steps { Steps self.old.connections.sockets self.new.connections.sockets }
+    {
+        self.connections.let_in(socket, named.conference);
+        let own = behind(named.bytes.as_slice(), named.at);
+        let served = self.meetings.came(socket, own, self.connections.millis());
+        let _has_more = note(&mut self.connections, &self.meetings, socket, served);
+        self.connections.resume(socket);
     }
 
     /// Somebody at a door is this user: it joins, and what stands behind the header is its own.
@@ -228,6 +317,8 @@ impl Server {
             → peer_of (socket_at self.old.connections.table socket) ≡ Some peer
             → EntersOrNot socket conference user (drop at bytes.now)
             self.old.connections.conferences self.old.meetings self.new }
+        ensures spares { is_held self.old.connections.conferences conference ≡ false
+            → MovesFree self.old.connections.conferences self.old.meetings self.new.meetings }
         ensures moves { Moves nothing_taken self.old.meetings self.new.meetings }
         ensures steps { Steps self.old.connections.sockets self.new.connections.sockets }
     {

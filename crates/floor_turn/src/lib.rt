@@ -9,6 +9,7 @@
 mod accepting;
 mod clients;
 mod hearing;
+mod holding;
 mod laws;
 mod meeting;
 mod opening;
@@ -23,6 +24,7 @@ mod writing;
 
 pub use floor_connections::{Deed, Departure, Entry, Fault, Peer, Place, Refusal, Who};
 pub use floor_doors::{DoorRefusal, NamedBy};
+pub use floor_loop::Event;
 pub use floor_meetings::{Act, Bounds, Config, Grace, HubRefusal, JoinRefusal, Loop, Member, Said};
 pub use floor_sockets::MAX_READ;
 pub use laws::{

@@ -10,6 +10,8 @@ ghost use Rattle.floor_meetings.specs.Joined.{is_of, member_with, of_user};
 ghost use Rattle.floor_meetings.specs.Meetings.{member_at};
 ghost use Rattle.floor_meetings.specs.declared.members.Member.{Member as Known};
 ghost use Rattle.floor_turn.specs.Entering.{IsFullFor, MayTry};
+ghost use Rattle.floor_connections.specs.declared.conferences.Conferences.{Conferences as Held};
+ghost use Rattle.floor_turn.specs.Held.{MovesFree, is_held_for};
 ghost use Rattle.floor_turn.specs.Moves.{Moves, nothing_taken};
 ghost use Rattle.floor_turn.specs.Touched.{touched_of};
 
@@ -27,19 +29,20 @@ pub(crate) fn part(meetings: &mut Meetings, slot: usize, is_lost: bool, now: u64
     ensures others { (k : ℕ) → nat_eq slot k ≡ false
         → member_at meetings.new k ≡ member_at meetings.old k }
     ensures stays { is_lost ≡ false → result ≡ false }
+    ensures spares { (cs : Held) → is_held_for cs (member_at meetings.old slot) ≡ false
+        → MovesFree cs meetings.old meetings.new }
     ensures moves { Moves nothing_taken meetings.old meetings.new }
 {
     let Some(member) = meetings.get(slot) else {
         return false;
     };
-    match meetings.left(slot, now) {
-        Ok(true) => {}
-        Ok(false) | Err(_) => return false,
+    if is_lost && sockets_of(meetings, member.conference, member.user) <= 1 {
+        match meetings.left(slot, now) {
+            Ok(stays) => return stays,
+            Err(_) => return false,
+        }
     }
-    if is_lost && sockets_of(meetings, member.conference, member.user) == 0 {
-        return true;
-    }
-    let _left = meetings.leave_away(member.number, now);
+    let _left = meetings.leave(slot, now);
     false
 }
 

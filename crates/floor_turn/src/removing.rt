@@ -52,6 +52,7 @@ impl Server {
         let who = who_at(&self.meetings, socket);
         let _stays = part(&mut self.meetings, socket, false, self.connections.millis());
         tell_removed(&mut self.connections, socket, who);
+        free_gone(&mut self.connections, socket);
         self.connections.fail(socket);
     }
 
@@ -104,6 +105,15 @@ impl Server {
         ensures value { result ≡ is_removed self.now.connections.conferences conference user }
     {
         self.connections.conferences.is_banned(conference, user)
+    }
+}
+
+/// The number of a socket that was shut while its conference was held is free.
+fn free_gone(connections: &mut Connections, socket: usize)
+    ensures steps { Steps connections.old.sockets connections.new.sockets }
+{
+    if connections.table.is_gone(socket) {
+        connections.shut(socket);
     }
 }
 

@@ -34,6 +34,8 @@ pub(crate) enum Course {
 ///
 /// - At the start: `new`, `with_grace` or `with_grace_for_all`; `door` for each door, `health` for each port of probes,
 ///   `open` for each conference.
+/// - While events are written down before anybody learns of them: `begin_keeping`, `hold`, `events_from`, `let_go`,
+///   `end_keeping`.
 /// - While it runs: `open`, `port`, `act`, `say`, `remove`, `close`, `forget`; `hub` lends the loop, by which conferences are read, and
 ///   `member` says who is at a socket. `stop` ends it.
 /// - The poll's words: `readable`, `writable` for sockets and `knocked` for listeners, whenever it says so; and `time`.
@@ -137,7 +139,7 @@ impl Server {
     }
 
     /// When the time is wanted next, in microseconds: at the soonest time that is due for a socket, or over for a member.
-    /// Behind a `next` that gave nothing it is later than now.
+    /// Behind a `next` that gave nothing it is later than now, unless somebody's is over of a conference that is held.
     pub fn due(&mut self) -> Option<u64>
         ensures found { IfSome result (IsDueAt self.old) }
         ensures sockets { IfSome result (λ time. All (λ d. time ≤ d.until)

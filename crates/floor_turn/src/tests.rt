@@ -2,5 +2,6 @@
 
 mod clients;
 mod ends;
+mod holding;
 mod members;
 mod page;

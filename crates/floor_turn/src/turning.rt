@@ -1,16 +1,19 @@
 //! The turn: what is to be done next.
 
-ghost use Rattle.std.specs.Prelude.{◌≡◌, IfNone, Option, Some, ℕ, None, false};
+ghost use Rattle.std.specs.Prelude.{◌≡◌, IfNone, IfSome, Option, Some, ℕ, None, false, true};
 ghost use Rattle.floor_loop.specs.Loop.{ready_at};
 ghost use Rattle.floor_sockets.specs.Laws.{is_shut};
 ghost use Rattle.floor_sockets.specs.Sockets.{IsDone};
 ghost use Rattle.floor_sockets.specs.declared.life.Deed.{Deed as Given};
 ghost use Rattle.floor_sockets.specs.declared.life.Deed.TheVariants as askeds;
 ghost use Rattle.floor_connections.specs.Steps.{Steps, StepsBy};
+ghost use Rattle.floor_connections.specs.Table.{reads_nobody};
 ghost use Rattle.floor_turn.specs.Course.{is_serving};
 ghost use Rattle.floor_turn.specs.Over.{IsHandedOut};
+ghost use Rattle.floor_turn.specs.Held.{IsOffered, MovesFree};
 ghost use Rattle.floor_turn.specs.Moves.{Moves, nothing_taken};
 
+use crate::holding::{is_held_by, is_held_listener};
 use crate::meeting::touched_by;
 use crate::server::{Course, Server};
 use crate::shutting::end_all;
@@ -29,6 +32,10 @@ impl Server {
             × StepsBy (λ slot. is_shut slot asked)
             self.old.connections.sockets self.new.connections.sockets }
         ensures moves { Moves nothing_taken self.old.meetings self.new.meetings }
+        ensures spares { MovesFree self.old.connections.conferences
+            self.old.meetings self.new.meetings }
+        ensures offered { IfSome result (IsOffered self.old.connections.conferences
+            self.new.connections.table self.new.meetings) }
     {
         match self.connections.next_entry() {
             Some(entry) => return Some(Deed::Log(entry)),
@@ -49,18 +56,29 @@ impl Server {
         self.rest()
     }
 
-    /// Whose time is over, who is ready, whoever is there where the server stops, or the next one that is leaving: one is
-    /// seen to. Says whether there was any.
+    /// Who is ready, whose time is over, who has gone or waits while a conference was held, whoever is there where the
+    /// server stops, or the next one that is leaving: one is seen to. Says whether there was any.
     fn see_to_somebody(&mut self) -> bool
         ensures ready { result ≡ false → (number : ℕ)
             → ready_at self.old.meetings.hub number ≡ None }
+        ensures spares { MovesFree self.old.connections.conferences
+            self.old.meetings self.new.meetings }
+        ensures rests { result ≡ false
+            → self.new.connections.conferences ≡ self.old.connections.conferences }
         ensures moves { Moves nothing_taken self.old.meetings self.new.meetings }
         ensures steps { Steps self.old.connections.sockets self.new.connections.sockets }
     {
+        // Whoever is ready first: what is kept is lent before an event tells what isn't.
+        if self.see_to_ready() {
+            return true;
+        }
         if self.see_to_due() {
             return true;
         }
-        if self.see_to_ready() {
+        if self.see_to_parting() {
+            return true;
+        }
+        if self.see_to_waiting() {
             return true;
         }
         if self.ends_all() {
@@ -83,6 +101,10 @@ impl Server {
     fn see_to_due(&mut self) -> bool
         ensures ready { result ≡ false → (number : ℕ)
             → ready_at self.new.meetings.hub number ≡ ready_at self.old.meetings.hub number }
+        ensures spares { MovesFree self.old.connections.conferences
+            self.old.meetings self.new.meetings }
+        ensures rests { result ≡ false
+            → self.new.connections.conferences ≡ self.old.connections.conferences }
         ensures moves { Moves nothing_taken self.old.meetings self.new.meetings }
         ensures steps { Steps self.old.connections.sockets self.new.connections.sockets }
     {
@@ -93,6 +115,9 @@ impl Server {
                 false
             }
             Some(Due::Away(number)) => {
+                if is_held_by(&self.connections, &self.meetings, number) {
+                    return false;
+                }
                 self.touched = touched_by(&self.meetings, number, self.touched);
                 let _left = self.meetings.leave_away(number, now);
                 let who = self.connections.forget_away(number);
@@ -105,6 +130,8 @@ impl Server {
 
     /// A server that stops has whoever is there shut, once whoever was ready has been seen to. Says whether it did.
     fn ends_all(&mut self) -> bool
+        ensures rests { result ≡ false
+            → self.new.connections.conferences ≡ self.old.connections.conferences }
         ensures meetings { self.new.meetings ≡ self.old.meetings }
         ensures steps { Steps self.old.connections.sockets self.new.connections.sockets }
     {
@@ -120,6 +147,8 @@ impl Server {
 
     /// The next one to whom nothing was lent is shut, unless something is by now. Says whether one was looked at.
     fn see_to_leaving(&mut self) -> bool
+        ensures rests { result ≡ false
+            → self.new.connections.conferences ≡ self.old.connections.conferences }
         ensures meetings { self.new.meetings ≡ self.old.meetings }
         ensures steps { Steps self.old.connections.sockets self.new.connections.sockets }
     {
@@ -134,33 +163,74 @@ impl Server {
     fn do_asked(&mut self, asked: Asked) -> Deed
         ensures handed { IsHandedOut (Some asked) (Some result) self.new.connections }
         ensures steps { Steps self.old.connections.sockets self.new.connections.sockets }
+        ensures spares { MovesFree self.old.connections.conferences
+            self.old.meetings self.new.meetings }
+        ensures offered { IsOffered self.old.connections.conferences
+            self.new.connections.table self.new.meetings result }
         ensures moves { Moves nothing_taken self.old.meetings self.new.meetings }
     {
         match asked {
-            Asked::Accept(listener) => Deed::Accept(listener),
-            Asked::Read(socket) => Deed::Read(socket),
+            Asked::Accept(listener) => self.accept_next(listener),
+            Asked::Read(socket) => self.read_next(socket),
             Asked::Write(socket) => Deed::Write(socket),
             Asked::Serve(socket) => self.serve_next(socket),
             Asked::Shut(socket) => self.shut_next(socket),
         }
     }
 
-    /// What is left over of a socket is served: of a client its caller does it.
+    /// Somebody who waits at a listener is accepted, unless its conference is held.
+    fn accept_next(&mut self, listener: usize) -> Deed
+        ensures meetings { self.new.meetings ≡ self.old.meetings }
+        ensures offered { IsOffered self.old.connections.conferences
+            self.new.connections.table self.new.meetings result }
+        ensures steps { Steps self.old.connections.sockets self.new.connections.sockets }
+    {
+        if !is_held_listener(&self.connections, listener) {
+            return Deed::Accept(listener);
+        }
+        self.connections.sockets.unaccepted(listener);
+        Deed::Turn
+    }
+
+    /// A socket is read, unless its member's conference is held.
+    fn read_next(&mut self, socket: usize) -> Deed
+        ensures meetings { self.new.meetings ≡ self.old.meetings }
+        ensures offered { IsOffered self.old.connections.conferences
+            self.new.connections.table self.new.meetings result }
+        ensures steps { Steps self.old.connections.sockets self.new.connections.sockets }
+    {
+        if !self.is_held_at(socket) {
+            return Deed::Read(socket);
+        }
+        self.connections.put_off(socket);
+        Deed::Turn
+    }
+
+    /// What is left over of a socket is served, unless its member's conference is held: of a client its caller does it.
     fn serve_next(&mut self, socket: usize) -> Deed
+        ensures spares { MovesFree self.old.connections.conferences
+            self.old.meetings self.new.meetings }
+        ensures offered { IsOffered self.old.connections.conferences
+            self.new.connections.table self.new.meetings result }
         ensures moves { Moves nothing_taken self.old.meetings self.new.meetings }
         ensures steps { Steps self.old.connections.sockets self.new.connections.sockets }
     {
         match self.connections.table.client(socket) {
-            Some(_) => Deed::Serve(socket),
-            None => {
-                self.serve(socket);
-                Deed::Turn
-            }
+            Some(_) => return Deed::Serve(socket),
+            None => {}
         }
+        if self.is_held_at(socket) {
+            self.connections.put_off(socket);
+            return Deed::Turn;
+        }
+        self.serve(socket);
+        Deed::Turn
     }
 
     /// A socket is to be shut. One that nobody else knows of goes at once.
     fn shut_next(&mut self, socket: usize) -> Deed
+        ensures offered { IsOffered self.old.connections.conferences
+            self.new.connections.table self.new.meetings result }
         ensures handed { IsHandedOut (Some (askeds.Shut socket)) (Some result)
             self.new.connections }
         ensures meetings { self.new.meetings ≡ self.old.meetings }
@@ -177,6 +247,7 @@ impl Server {
 
     /// Nothing is to be done: the start is over, or all is done.
     fn rest(&mut self) -> Option<Deed>
+        ensures ends { IfSome result (λ d. reads_nobody d ≡ true) }
         ensures connections { self.new.connections ≡ self.old.connections }
         ensures meetings { self.new.meetings ≡ self.old.meetings }
     {

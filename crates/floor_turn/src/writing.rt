@@ -8,6 +8,8 @@ ghost use Rattle.floor_sockets.specs.Life.{unblocked};
 ghost use Rattle.floor_sockets.specs.Sockets.{Changed, life_at};
 ghost use Rattle.floor_connections.specs.Asked.{is_ending, writes};
 ghost use Rattle.floor_connections.specs.Steps.{Steps};
+ghost use Rattle.floor_connections.specs.declared.conferences.Conferences.{Conferences as Held};
+ghost use Rattle.floor_turn.specs.Held.{MovesFree};
 ghost use Rattle.floor_turn.specs.Moves.{Moves, nothing_taken, taken_at, taken_of};
 
 use crate::meeting::touched_at;
@@ -59,6 +61,9 @@ impl Server {
         ensures none { result ≡ false
             → (number : ℕ) → ready_at self.old.meetings.hub number ≡ None }
         ensures members { self.new.meetings.members ≡ self.old.meetings.members }
+        ensures spares { (cs : Held) → MovesFree cs self.old.meetings self.new.meetings }
+        ensures rests { result ≡ false
+            → self.new.connections.conferences ≡ self.old.connections.conferences }
         ensures moves { Moves nothing_taken self.old.meetings self.new.meetings }
         ensures steps { Steps self.old.connections.sockets self.new.connections.sockets }
     {

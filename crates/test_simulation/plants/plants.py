@@ -116,8 +116,8 @@ PLANTS = [
     (705, "it rests, and says that its time has come", T + "server.rt", "        let of_sockets = self.connections.sockets.due();", "        let of_sockets = if B { Some(self.connections.time) } else { self.connections.sockets.due() };"),
     # Grace.
     (711, "who ended in order stays", T + "shutting.rt", "departure.is_lost(self.is_for_all)", "departure.is_lost((self.is_for_all && !B715) || B)"),
-    (712, "who has another connection there stays", T + "meeting.rt", "    if is_lost && sockets_of(meetings, member.conference, member.user) == 0 {", "    if is_lost && (B || sockets_of(meetings, member.conference, member.user) == 0) {"),
-    (713, "nobody stays", T + "meeting.rt", "        Ok(true) => {}\n", "        Ok(true) if !B => {}\n        Ok(true) => {\n            let _left = meetings.leave_away(member.number, now);\n            return false;\n        }\n"),
+    (712, "who has another connection there stays", T + "meeting.rt", "    if is_lost && sockets_of(meetings, member.conference, member.user) <= 1 {", "    if is_lost && (B || sockets_of(meetings, member.conference, member.user) <= 1) {"),
+    (713, "nobody stays", T + "meeting.rt", "        return false;\n    };\n    if is_lost", "        return false;\n    };\n    let is_lost = is_lost && !B;\n    if is_lost"),
     (714, "that a user is back isn't told", C + "connections.rt", "            Some(who) => self.tell(Entry::Back(who)),", "            Some(_) if B => {}\n            Some(who) => self.tell(Entry::Back(who)),"),
     (715, "who ended in order never stays"),
     # The stop.

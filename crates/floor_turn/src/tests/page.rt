@@ -133,6 +133,16 @@ impl Paged {
             "remove" => self.server.remove(number(words.get(1)), now),
             "ban" => self.server.ban(conference, user)?,
             "admit" => self.server.admit(conference, user),
+            "keep" => {
+                let _begun = self.server.begin_keeping(conference);
+            }
+            "keep-no-more" => {
+                let _ended = self.server.end_keeping(conference);
+            }
+            "hold" => self.server.hold(conference),
+            "let-go" => {
+                let _kept = self.server.let_go(conference, count as u32);
+            }
             _ => {}
         }
         Ok(())

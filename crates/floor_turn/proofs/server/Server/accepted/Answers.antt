@@ -1,4 +1,4 @@
-use Rattle.std.proofs.Common.{◌≡◌, Some, refl, subst, ◌∙◌}
+use Rattle.std.proofs.Common.{◌≡◌, Some, refl, subst, ◌∙◌, ap, false}
 use Rattle.floor_connections.specs.declared.place.Place.TheVariants.{Door, Port}
 use Rattle.floor_connections.specs.declared.table.Table.{Table}
 use Rattle.floor_connections.specs.Table.{client_of, listener_of, socket_at}
@@ -7,6 +7,9 @@ use Rattle.floor_connections.proofs.Steps.{steps_same, steps_then}
 use Rattle.floor_turn.proofs.Handing.{place_of}
 use Rattle.floor_turn.proofs.Entering.{Declined, IsClients, of_listener}
 use Rattle.floor_turn.proofs.Moving.{moves_same}
+use Rattle.floor_turn.proofs.Sparing.{free_same}
+use Rattle.floor_turn.specs.Held.{MovesFree, is_held_place}
+use Rattle.floor_connections.specs.declared.place.Place.{Place}
 use Rattle.floor_turn.proofs.server.Server.accepted.Goals as goal
 
 pub returns-in-Ok-clause-joined : goal.returns-in-Ok-clause-joined
@@ -45,3 +48,22 @@ returns-in-Ok-clause-client c = λ l at.
     of_listener (λ place. IsClients place → client_of (socket_at c.come_in.new.self.connections.table c.in-Ok.socket) ≡ Some place)
     (listener_of (socket_at c.args.self.now.connections.table c.args.listener)) c.in-Some.known l
     (subst (λ (t : Table). listener_of (socket_at t c.args.listener) ≡ Some c.in-Some.known) c.pass.ensures.table c.in-Some.ensures.found) at c.in-Ok.ensures.client
+
+pub returns-in_default-clause-spares : goal.returns-in_default-clause-spares
+returns-in_default-clause-spares c = λ l at free. free_same c.args.self.now.connections.conferences c.args.self.now.meetings c.args.self.now.meetings refl
+
+pub returns-in-Ok-clause-spares : goal.returns-in-Ok-clause-spares
+returns-in-Ok-clause-spares c = λ l at free.
+    let same = c.accept.ensures.conferences ∙ c.pass.ensures.conferences in
+    let known : is_held_place c.accept.new.self.conferences c.in-Some.known.place ≡ false =
+    ap (λ (cs : Conferences). is_held_place cs c.in-Some.known.place) same
+    ∙ (ap (λ (place : Place). is_held_place c.args.self.now.connections.conferences place) (place_of (listener_of (socket_at c.args.self.now.connections.table c.args.listener)) c.in-Some.known l l.place (subst (λ (t : Table). listener_of (socket_at t c.args.listener) ≡ Some c.in-Some.known) c.pass.ensures.table c.in-Some.ensures.found) at refl) ∙ free) in
+    subst (λ (cs : Conferences). MovesFree cs c.args.self.now.meetings c.come_in.new.self.meetings) same (c.come_in.ensures.spares known)
+
+pub returns-in-Err-clause-spares : goal.returns-in-Err-clause-spares
+returns-in-Err-clause-spares c = λ l at free.
+    let same = c.accept.ensures.conferences ∙ c.pass.ensures.conferences in
+    let known : is_held_place c.accept.new.self.conferences c.in-Some.known.place ≡ false =
+    ap (λ (cs : Conferences). is_held_place cs c.in-Some.known.place) same
+    ∙ (ap (λ (place : Place). is_held_place c.args.self.now.connections.conferences place) (place_of (listener_of (socket_at c.args.self.now.connections.table c.args.listener)) c.in-Some.known l l.place (subst (λ (t : Table). listener_of (socket_at t c.args.listener) ≡ Some c.in-Some.known) c.pass.ensures.table c.in-Some.ensures.found) at refl) ∙ free) in
+    subst (λ (cs : Conferences). MovesFree cs c.args.self.now.meetings c.come_in.new.self.meetings) same (c.come_in.ensures.spares known)

@@ -6,8 +6,9 @@ use Rattle.floor_connections.specs.Table.{socket_at}
 use Rattle.floor_sockets.specs.Sockets.{life_at}
 use Rattle.floor_connections.proofs.Ending.{ends_by}
 use Rattle.floor_turn.proofs.Entering.{as_named, turned_there}
-use Rattle.floor_turn.specs.Entering.{EntersOrNot}
+use Rattle.floor_turn.specs.Entering.{EntersOrWaits}
 use Rattle.floor_turn.proofs.Moving.{moves_same}
+use Rattle.floor_turn.proofs.Sparing.{free_same}
 use Rattle.floor_turn.proofs.server.Server.act_on.Goals as goal
 
 pub returns-in-Wait-clause-moves : goal.returns-in-Wait-clause-moves
@@ -24,8 +25,8 @@ returns-in-Wait-clause-steps c = steps_by (Reads c.args.socket (length c.args.by
 
 pub returns-in-Enter-clause-entered : goal.returns-in-Enter-clause-entered
 returns-in-Enter-clause-entered c = λ peer d u behind at is.
-    as_named (λ x y z. EntersOrNot c.args.socket x y (drop z c.args.bytes.now) c.args.self.now.connections.conferences c.args.self.now.meetings c.enter.new.self) c.in-Enter.conference c.in-Enter.user c.in-Enter.at d u behind (sym c.in-Enter.is ∙ is)
-    (c.enter.ensures.entered peer at)
+    as_named (λ x y z. EntersOrWaits c.args.socket x y (drop z c.args.bytes.now) c.args.self.now.connections.conferences c.args.self.now.meetings c.enter_or_wait.new.self) c.in-Enter.conference c.in-Enter.user c.in-Enter.at d u behind (sym c.in-Enter.is ∙ is)
+    (c.enter_or_wait.ensures.entered peer at)
 
 pub returns-in-LetGo-clause-let_go : goal.returns-in-LetGo-clause-let_go
 returns-in-LetGo-clause-let_go c = λ peer at is. (
@@ -50,3 +51,12 @@ returns-in-LetGo-clause-steps c = steps_by (Fail c.args.socket) c.args.self.now.
 
 pub returns-in-Refuse-clause-steps : goal.returns-in-Refuse-clause-steps
 returns-in-Refuse-clause-steps c = steps_by (Fail c.args.socket) c.args.self.now.connections.sockets c.turn_away-in-Refuse.new.self.sockets (λ slot. refl) c.turn_away-in-Refuse.ensures.failed
+
+pub returns-in-Wait-clause-spares : goal.returns-in-Wait-clause-spares
+returns-in-Wait-clause-spares c = free_same c.args.self.now.connections.conferences c.args.self.now.meetings c.args.self.now.meetings refl
+
+pub returns-in-LetGo-clause-spares : goal.returns-in-LetGo-clause-spares
+returns-in-LetGo-clause-spares c = free_same c.args.self.now.connections.conferences c.args.self.now.meetings c.args.self.now.meetings refl
+
+pub returns-in-Refuse-clause-spares : goal.returns-in-Refuse-clause-spares
+returns-in-Refuse-clause-spares c = free_same c.args.self.now.connections.conferences c.args.self.now.meetings c.args.self.now.meetings refl

@@ -10,10 +10,12 @@ use Rattle.floor_connections.specs.Table.{is_at_door, peer_of, socket_at}
 use Rattle.floor_connections.specs.declared.table.Socket.TheVariants.{AtDoor}
 use Rattle.floor_connections.specs.declared.table.Table.{Table}
 use Rattle.floor_connections.specs.declared.conferences.Conferences.{Conferences}
-use Rattle.floor_turn.specs.Entering.{EntersOrNot}
+use Rattle.floor_turn.specs.Entering.{EntersOrWaits}
 use Rattle.floor_turn.proofs.Handing.{never}
 use Rattle.floor_turn.proofs.Entering.{no_wait_enter, no_wait_refuse, told}
 use Rattle.floor_turn.proofs.Moving.{moves_same}
+use Rattle.floor_turn.proofs.Sparing.{free_same}
+use Rattle.floor_turn.specs.Held.{MovesFree}
 use Rattle.floor_turn.proofs.server.Server.came.Goals as goal
 
 pub returns-then-not-is_reading-clause-moves : goal.returns-then-not-is_reading-clause-moves
@@ -32,7 +34,7 @@ returns-then-is_at_door-clause-entered c = λ peer n d u len asked at header.
     let there : socket_at c.pass.new.self.table c.args.socket ≡ Some (AtDoor peer n) = ap (λ (t : Table). socket_at t c.args.socket) c.pass.ensures.table ∙ at in
     let said = told v held (proxy n.named_by (n.held ++ c.args.bytes.now)) (c.came_at_door-verdict.ensures.value peer n there) in
     elim said [
-      | inl e ↦ let named : v ≡ Enter d u (len - held) = e ∙ ap (follows held) header in inl (subst (λ (cs : Conferences). EntersOrNot c.args.socket d u (drop (len - held) c.args.bytes.now) cs c.args.self.now.meetings c.act_on.new.self) c.pass.ensures.conferences (c.act_on.ensures.entered peer d u (len - held) (ap peer_of (c.came_at_door-verdict.ensures.left (no_wait_enter v d u (len - held) named) c.args.socket ∙ there)) named))
+      | inl e ↦ let named : v ≡ Enter d u (len - held) = e ∙ ap (follows held) header in inl (subst (λ (cs : Conferences). EntersOrWaits c.args.socket d u (drop (len - held) c.args.bytes.now) cs c.args.self.now.meetings c.act_on.new.self) c.pass.ensures.conferences (c.act_on.ensures.entered peer d u (len - held) (ap peer_of (c.came_at_door-verdict.ensures.left (no_wait_enter v d u (len - held) named) c.args.socket ∙ there)) named))
       | inr e ↦ inr (c.act_on.ensures.refused peer Memory (ap peer_of (c.came_at_door-verdict.ensures.left (no_wait_refuse v Memory e) c.args.socket ∙ there)) e)
     ]
 
@@ -58,3 +60,12 @@ returns-then-not-is_reading-clause-entered c = λ peer n d u len asked at header
 
 pub returns-then-not-is_reading-clause-wrong : goal.returns-then-not-is_reading-clause-wrong
 returns-then-not-is_reading-clause-wrong c = λ peer n why asked at header. never _ (sym c.if-not-is_reading.true ∙ (c.is_reading.ensures.value ∙ ap (λ (s : Sockets). reads (life_at s c.args.socket)) c.pass.ensures.sockets ∙ asked))
+
+pub returns-then-not-is_reading-clause-spares : goal.returns-then-not-is_reading-clause-spares
+returns-then-not-is_reading-clause-spares c = λ free. free_same c.args.self.now.connections.conferences c.args.self.now.meetings c.args.self.now.meetings refl
+
+pub returns-then-is_at_door-clause-spares : goal.returns-then-is_at_door-clause-spares
+returns-then-is_at_door-clause-spares c = λ free. subst (λ (cs : Conferences). MovesFree cs c.args.self.now.meetings c.act_on.new.self.meetings) c.pass.ensures.conferences c.act_on.ensures.spares
+
+pub returns-else-is_at_door-clause-spares : goal.returns-else-is_at_door-clause-spares
+returns-else-is_at_door-clause-spares c = c.hear.ensures.spares c.args.self.now.connections.conferences

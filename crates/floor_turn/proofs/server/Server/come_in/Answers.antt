@@ -1,10 +1,12 @@
-use Rattle.std.proofs.Common.{◌≡◌, ℕ, Some, refl, sym, ◌∙◌}
+use Rattle.std.proofs.Common.{◌≡◌, Some, refl, sym, ◌∙◌, ap}
 use Rattle.floor_loop.specs.Laws.{IsNew}
 use Rattle.floor_meetings.specs.Meetings.{member_at}
 use Rattle.floor_meetings.specs.declared.members.Member.{Member}
 use Rattle.floor_turn.proofs.Entering.{Declined, at_port_refused, client_there, no_client, no_port_refused, not_clients_door, not_clients_health, not_clients_port}
 use Rattle.floor_turn.proofs.Handing.{at_port, no_port, not_control, not_door, not_health, not_observe}
 use Rattle.floor_turn.proofs.Moving.{moves_same}
+use Rattle.floor_turn.proofs.Sparing.{free_same}
+use Rattle.floor_turn.specs.Held.{is_held_place}
 use Rattle.floor_turn.proofs.server.Server.come_in.Goals as goal
 
 pub returns-in-Port-clause-joined : goal.returns-in-Port-clause-joined
@@ -78,3 +80,18 @@ returns-in-Control-clause-client c = client_there c.open_client.result c.open_cl
 
 pub returns-in-Observe-clause-client : goal.returns-in-Observe-clause-client
 returns-in-Observe-clause-client c = client_there c.open_client-in-Observe.result c.open_client-in-Observe.new.self.table c.args.peer.place c.open_client-in-Observe.ensures.there
+
+pub returns-in-Port-clause-spares : goal.returns-in-Port-clause-spares
+returns-in-Port-clause-spares c = λ free. c.enter_at_port.ensures.spares (ap (is_held_place c.args.self.now.connections.conferences) (sym c.in-Port.is) ∙ free)
+
+pub returns-in-Door-clause-spares : goal.returns-in-Door-clause-spares
+returns-in-Door-clause-spares c = λ free. free_same c.args.self.now.connections.conferences c.args.self.now.meetings c.args.self.now.meetings refl
+
+pub returns-in-Health-clause-spares : goal.returns-in-Health-clause-spares
+returns-in-Health-clause-spares c = λ free. free_same c.args.self.now.connections.conferences c.args.self.now.meetings c.args.self.now.meetings refl
+
+pub returns-in-Control-clause-spares : goal.returns-in-Control-clause-spares
+returns-in-Control-clause-spares c = λ free. free_same c.args.self.now.connections.conferences c.args.self.now.meetings c.args.self.now.meetings refl
+
+pub returns-in-Observe-clause-spares : goal.returns-in-Observe-clause-spares
+returns-in-Observe-clause-spares c = λ free. free_same c.args.self.now.connections.conferences c.args.self.now.meetings c.args.self.now.meetings refl

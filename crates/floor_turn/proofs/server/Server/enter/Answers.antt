@@ -8,6 +8,9 @@ use Rattle.floor_sockets.specs.Sockets.{life_at}
 use Rattle.floor_connections.proofs.Ending.{ends_by}
 use Rattle.floor_turn.proofs.Entering.{turned_there}
 use Rattle.floor_turn.proofs.Moving.{moves_then}
+use Rattle.floor_turn.proofs.Sparing.{free_member, free_then}
+use Rattle.floor_connections.specs.Conferences.{is_held}
+use Rattle.floor_meetings.specs.Meetings.{member_at}
 use Rattle.floor_turn.proofs.server.Server.enter.Goals as goal
 
 pub returns-in-Ok-clause-entered : goal.returns-in-Ok-clause-entered
@@ -45,3 +48,13 @@ returns-in-Ok-clause-steps c =
 
 pub returns-in-Err-clause-steps : goal.returns-in-Err-clause-steps
 returns-in-Err-clause-steps c = steps_more (Fail c.args.socket) c.args.self.now.connections.sockets c.join.new.self.connections.sockets c.turn_away.new.self.sockets (λ slot. refl) c.join.ensures.steps c.turn_away.ensures.failed
+
+pub returns-in-Ok-clause-spares : goal.returns-in-Ok-clause-spares
+returns-in-Ok-clause-spares c = λ free.
+    let cs = c.args.self.now.connections.conferences in
+    let joined = c.in-Ok.ensures.joined in
+    free_then cs c.args.self.now.meetings c.join.new.self.meetings c.hear.new.self.meetings (c.join.ensures.spares free)
+    (c.hear.ensures.spares cs (free_member cs (member_at c.join.new.self.meetings c.args.socket) joined.0 joined.1 (ap (is_held cs) joined.2 ∙ free)))
+
+pub returns-in-Err-clause-spares : goal.returns-in-Err-clause-spares
+returns-in-Err-clause-spares c = c.join.ensures.spares

@@ -1,4 +1,4 @@
-use Rattle.std.proofs.Common.{refl, ◌≡◌, ◌∙◌, ap, sym, Bool}
+use Rattle.std.proofs.Common.{refl, ◌≡◌, ◌∙◌, ap, sym, Bool, subst}
 use Rattle.floor_meetings.specs.Runs.{Failed}
 use Rattle.floor_connections.proofs.Steps.{steps_then}
 use Rattle.std.specs.Prelude.{if◌then◌else◌}
@@ -11,6 +11,9 @@ use Rattle.floor_connections.specs.declared.table.Table.{Table}
 use Rattle.floor_turn.proofs.Handing.{never}
 use Rattle.floor_turn.proofs.Entering.{door_peer}
 use Rattle.floor_turn.proofs.Moving.{moves_one, moves_same}
+use Rattle.floor_turn.proofs.Sparing.{free_one, free_same}
+use Rattle.floor_turn.specs.Held.{MovesFree}
+use Rattle.floor_connections.specs.declared.conferences.Conferences.{Conferences}
 use Rattle.floor_turn.proofs.server.Server.failed.Goals as goal
 
 pub returns-then-not-is_reading-clause-moves : goal.returns-then-not-is_reading-clause-moves
@@ -37,3 +40,12 @@ returns-clause-turned c = λ asked at. never _ (sym c.if-is_at_door.false ∙ (c
 
 pub returns-then-not-is_reading-clause-turned : goal.returns-then-not-is_reading-clause-turned
 returns-then-not-is_reading-clause-turned c = λ asked at. never _ (sym c.if-not-is_reading.true ∙ (c.is_reading.ensures.value ∙ ap (λ (s : Sockets). reads (life_at s c.args.socket)) c.pass.ensures.sockets ∙ asked))
+
+pub returns-then-not-is_reading-clause-spares : goal.returns-then-not-is_reading-clause-spares
+returns-then-not-is_reading-clause-spares c = λ free. free_same c.args.self.now.connections.conferences c.args.self.now.meetings c.args.self.now.meetings refl
+
+pub returns-then-is_at_door-clause-spares : goal.returns-then-is_at_door-clause-spares
+returns-then-is_at_door-clause-spares c = λ free. subst (λ (cs : Conferences). MovesFree cs c.args.self.now.meetings c.act_on.new.self.meetings) c.pass.ensures.conferences c.act_on.ensures.spares
+
+pub returns-clause-spares : goal.returns-clause-spares
+returns-clause-spares c = λ free. free_one c.args.self.now.connections.conferences (Failed c.args.socket) c.args.self.now.meetings c.failed.new.self (c.failed.ensures.members, c.failed.ensures.took) (λ slot. refl) free

@@ -9,6 +9,7 @@ use Rattle.floor_sockets.specs.Runs.{Came as Reads}
 use Rattle.floor_connections.proofs.Steps.{steps_more}
 use Rattle.floor_turn.proofs.Handing.{any_answer}
 use Rattle.floor_turn.proofs.Moving.{moves_one}
+use Rattle.floor_turn.proofs.Sparing.{free_one}
 use Rattle.floor_turn.proofs.server.Server.hear.Goals as goal
 
 pub returns-clause-took : goal.returns-clause-took
@@ -25,3 +26,6 @@ returns-clause-steps c = steps_more (Reads c.args.socket c.args.count c.note-has
 
 pub returns-clause-heard : goal.returns-clause-heard
 returns-clause-heard c = (c.came-served.result, (c.came-served.ensures.members, c.came-served.ensures.took))
+
+pub returns-clause-spares : goal.returns-clause-spares
+returns-clause-spares c = λ cs free. free_one cs (Came c.args.socket c.args.bytes.now c.came-served.result) c.args.self.now.meetings c.came-served.new.self (c.came-served.ensures.members, c.came-served.ensures.took) (λ slot. refl) free

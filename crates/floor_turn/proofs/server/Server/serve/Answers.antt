@@ -9,6 +9,7 @@ use Rattle.floor_sockets.specs.Runs.{Served}
 use Rattle.floor_connections.proofs.Steps.{steps_more}
 use Rattle.floor_turn.proofs.Handing.{any_answer}
 use Rattle.floor_turn.proofs.Moving.{moves_one}
+use Rattle.floor_turn.proofs.Sparing.{free_one}
 use Rattle.floor_turn.proofs.server.Server.serve.Goals as goal
 
 pub returns-clause-took : goal.returns-clause-took
@@ -22,3 +23,6 @@ returns-clause-moves c = moves_one (Came c.args.socket [] c.serve-served.result)
 
 pub returns-clause-steps : goal.returns-clause-steps
 returns-clause-steps c = steps_more (Served c.args.socket c.note-has_more.result) c.args.self.now.connections.sockets c.note-has_more.new.connections.sockets c.served.new.self (λ slot. refl) c.note-has_more.ensures.steps c.served.ensures.took
+
+pub returns-clause-spares : goal.returns-clause-spares
+returns-clause-spares c = λ free. free_one c.args.self.now.connections.conferences (Came c.args.socket [] c.serve-served.result) c.args.self.now.meetings c.serve-served.new.self (c.serve-served.ensures.members, c.serve-served.ensures.took) (λ slot. refl) free
