@@ -4,7 +4,7 @@
 
 use crate::{
     Answer, Deed, End, Entry, FileDeed, Finish, Keeping, Left, OpenRefusal, Outcome, Policy,
-    Server, ServerDeed, Unresumed,
+    Server, ServerDeed, Syncing, Unresumed,
 };
 use floor_config::read_configs;
 use floor_turn::{Bounds, Entry as Line, Grace};
@@ -33,6 +33,11 @@ id = 11
 port = 7011
 ---
 ";
+
+pub(super) const NEVER: Policy = Policy {
+    syncing: Syncing::Never,
+    or_stop: false,
+};
 
 const BOUNDS: Bounds = Bounds {
     of_user: 2,
@@ -96,7 +101,7 @@ impl Paged {
                 let port = number(words.get(3)) as u16;
                 let _added = self.keeping.port(&mut self.server, conference, user, port);
             }
-            "word" => self.keeping.note(
+            "note" => self.keeping.note(
                 &self.server,
                 conference,
                 &Entry::Port { user: 10, port: 7 },
