@@ -8,6 +8,7 @@
 
 mod deed;
 mod keeping;
+mod laws;
 mod refusal;
 mod starting;
 #[cfg(test)]
@@ -21,5 +22,6 @@ pub use floor_keeping::{
 };
 pub use floor_turn::{Config, Deed as ServerDeed, HubRefusal, Server};
 pub use keeping::Keeping;
+pub use laws::nothing_is_told_before_it_is_kept;
 pub use refusal::{OpenRefusal, Unresumed};
 pub use turning::MAX_OTHERS;

@@ -6,3 +6,4 @@ pub mod Owned
 pub mod Epochs
 pub mod Listing
 pub mod Disk
+pub mod Growing

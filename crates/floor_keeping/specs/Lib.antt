@@ -10,5 +10,6 @@ pub mod Runs
 pub mod Read
 pub mod Calls
 pub mod Laws
+pub mod Growing
 -- the steps of the proofs
 pub mod steps

@@ -1,0 +1,170 @@
+-- No step has an event count as kept that the file hasn't.
+use Rattle.std.proofs.Common.{◌≡◌, ◌≢◌, ◌<◌, ◌≤◌, ℕ, Bool, true, false, List, [], ◌∷◌, ◌++◌, length, refl, sym, ◌∙◌, ap, subst, arith, inl, inr, append-nil}
+use Rattle.std.specs.Prelude.{◌⊎◌, ◌||◌, All, leb, max, min, nat_eq, take, Option, Some, None}
+use Rattle.std.proofs.lemmas.Bool.Decides.{eqb_tells, leb_tells}
+use Rattle.std.proofs.lemmas.List.{length-append, length-take, take-append-le}
+use Rattle.std.proofs.lemmas.List.Elements.{All-nil}
+use Rattle.std.proofs.lemmas.Option.{none-some}
+use Rattle.std.proofs.Math.Nat.{max-eq_left, max-eq_right}
+use Rattle.floor_machine.specs.declared.event.Event.{Event}
+use Rattle.floor_room.specs.Room.{Room}
+use Rattle.floor_hub.specs.Hub.{Hub, room_at}
+use Rattle.floor_hub.specs.Rooms.{KeepsIn, so_many}
+use Rattle.floor_loop.specs.Resumed.{IsLeave}
+use Rattle.floor_keeping.specs.Calls as filed
+use Rattle.floor_keeping.specs.Calls.{begins_it}
+use Rattle.floor_keeping.specs.Files.{Files, file_at}
+use Rattle.floor_keeping.specs.Growing.{AreOrdered, Grew, WhatIsKeptStaysKept}
+use Rattle.floor_keeping.specs.Kept.{KeptFile}
+use Rattle.floor_keeping.specs.declared.policy.Policy.{Policy}
+use Rattle.floor_files.specs.Kept.{AreKept, IsKeptBy}
+use Rattle.floor_files.specs.Laws.{NothingIsToldBeforeItIsKept}
+use Rattle.floor_files.specs.Runs.{Both, Goes, SameKept, Step, Steps, Served, Filed, Begun, Told, Ended, Does}
+
+room-same : (r s : Room) → Some r ≡ Some s → r ≡ s
+room-same r s e = ap (λ (o : Option Room). or o) e
+  where
+    or : Option Room → Room
+    or None = r
+    or (Some x) = x
+
+-- the room goes on
+goes_on : (r n : Room) (f : KeptFile) → Goes r n → IsKeptBy r f → IsKeptBy n f
+goes_on r n f g k =
+    let within : r.kept ≤ length r.ledger.journal = k.within in
+    record {
+      within =
+          subst (λ (j : List Event). n.kept ≤ length j) (sym g.journal)
+          (let len = length-append r.ledger.journal g.more in let same = g.kept in omega (arith, within, len, same));
+      events = k.events;
+      left = k.left;
+      parts =
+          ap (λ (j : List Event). take n.kept j) g.journal
+          ∙ ap (λ (i : ℕ). take i (r.ledger.journal ++ g.more)) g.kept
+          ∙ take-append-le r.kept r.ledger.journal g.more within
+          ∙ k.parts;
+      stand = k.stand;
+      leaves = k.leaves;
+    }
+
+-- the file has no fewer kept
+grows : (r : Room) (f g : KeptFile) → f.state.kept ≤ g.state.kept → IsKeptBy r f → IsKeptBy r g
+grows r f g more k = record {
+  within = k.within;
+  events = k.events;
+  left = k.left;
+  parts = k.parts;
+  stand = (let a = k.stand in omega (arith, a, more));
+  leaves = k.leaves;
+}
+
+-- so many are told to be kept
+told : (events : ℕ) (r : Room) (f : KeptFile) → events ≤ f.state.kept → IsKeptBy r f → IsKeptBy (record r { kept = so_many events r }) f
+told events r f enough k = by (leb_tells (min events (length r.ledger.journal)) r.kept)
+  where
+    m : ℕ
+    m = min events (length r.ledger.journal)
+    by : (((leb m r.kept ≡ true) × (m ≤ r.kept)) ⊎ ((leb m r.kept ≡ false) × (r.kept < m))) → IsKeptBy (record r { kept = so_many events r }) f
+    by (inl u) =
+        let same : so_many events r ≡ r.kept = max-eq_left u.1 in
+        subst (λ (i : ℕ). IsKeptBy (record r { kept = i }) f) (sym same) k
+    by (inr u) =
+        let less = u.1 in
+        let same : so_many events r ≡ m = max-eq_right (omega (arith, less)) in
+        subst (λ (i : ℕ). IsKeptBy (record r { kept = i }) f) (sym same) (record {
+          within = omega arith;
+          events = take m r.ledger.journal;
+          left = [];
+          parts = sym (append-nil (take m r.ledger.journal));
+          stand = (let len = length-take m r.ledger.journal in omega (arith, len, enough));
+          leaves = All-nil IsLeave;
+        })
+
+-- rooms, each of which is as it was or kept by its file
+same_room : (r n : Room) (f : KeptFile) → n ≡ r → IsKeptBy r f → IsKeptBy n f
+same_room r n f same k = subst (λ (x : Room). IsKeptBy x f) (sym same) k
+
+served : (files : Files) (old new : Hub) → SameKept old new files → AreKept old files → AreKept new files
+served files old new same kept = λ c n f at filed. by c n f at filed (room_at old c) refl
+  where
+    by : (c : ℕ) (n : Room) (f : KeptFile) → room_at new c ≡ Some n → file_at files c ≡ Some f → (o : Option Room) → room_at old c ≡ o → IsKeptBy n f
+    by c n f at filed None was = absurd (none-some f (sym ((same c n at).1 was) ∙ filed))
+    by c n f at filed (Some r) was = goes_on r n f ((same c n at).0 r was) (kept c r f was filed)
+
+kept_in : (count : Room → ℕ) (c : ℕ) (files : Files) (old new : Hub) → KeepsIn count c old new → ((r : Room) (f : KeptFile) → file_at files c ≡ Some f → IsKeptBy r f → IsKeptBy (record r { kept = count r }) f) → AreKept old files
+    → AreKept new files
+kept_in count c files old new k here kept = λ d n f at filed. by d n f at filed (eqb_tells c d)
+  where
+    by : (d : ℕ) (n : Room) (f : KeptFile) → room_at new d ≡ Some n → file_at files d ≡ Some f → (((nat_eq c d ≡ true) × (c ≡ d)) ⊎ ((nat_eq c d ≡ false) × (c ≢ d))) → IsKeptBy n f
+    by d n f at filed (inl u) =
+        let filed_here : file_at files c ≡ Some f = ap (λ (i : ℕ). file_at files i) u.1 ∙ filed in
+        same_room (record k.before { kept = count k.before }) n f (sym (room-same _ n (sym k.now ∙ ap (λ (i : ℕ). room_at new i) u.1 ∙ at))) (here k.before f filed_here (kept c k.before f k.was filed_here))
+    by d n f at filed (inr u) = kept d n f (sym (k.others d u.0) ∙ at) filed
+
+-- the files go on
+one_call : (call : filed.Call) (old new : Files) → filed.Does call old new → filed.Calls (call ∷ []) old new
+one_call call old new does = (old, refl, does)
+
+or-none : (b : Bool) → b ≡ false → (b || false) ≡ false
+or-none b e = ap (λ (x : Bool). x || false) e
+
+filed_on : WhatIsKeptStaysKept → (h : Hub) (call : filed.Call) (old new : Files) → filed.Does call old new → AreOrdered old.table.policy old → AreKept h old
+    → (c : ℕ) (r : Room) (f : KeptFile) → begins_it c call ≡ false → room_at h c ≡ Some r → file_at new c ≡ Some f → IsKeptBy r f
+filed_on law h call old new does ord kept c r f none at filed =
+    let g : Grew old c f = (law (call ∷ []) old new (one_call call old new does) ord).1 c f filed (or-none (begins_it c call) none) in
+    grows r g.file f g.kept (kept c r g.file at g.there)
+
+begun_on : WhatIsKeptStaysKept → (h : Hub) (c : ℕ) (call : filed.Call) (old new : Files) → filed.Does call old new → ((k : ℕ) → nat_eq c k ≡ false → begins_it k call ≡ false)
+    → ((f : KeptFile) (r : Room) → file_at new c ≡ Some f → room_at h c ≡ Some r → IsKeptBy r f) → AreOrdered old.table.policy old → AreKept h old → AreKept h new
+begun_on law h c call old new does others here ord kept = λ d r f at filed. by d r f at filed (eqb_tells c d)
+  where
+    by : (d : ℕ) (r : Room) (f : KeptFile) → room_at h d ≡ Some r → file_at new d ≡ Some f → (((nat_eq c d ≡ true) × (c ≡ d)) ⊎ ((nat_eq c d ≡ false) × (c ≢ d))) → IsKeptBy r f
+    by d r f at filed (inl u) = here f r (ap (λ (i : ℕ). file_at new i) u.1 ∙ filed) (ap (λ (i : ℕ). room_at h i) u.1 ∙ at)
+    by d r f at filed (inr u) = filed_on law h call old new does ord kept d r f (others d u.0) at filed
+
+-- each step
+Holds : Policy → Both → Type 0
+Holds p b = AreOrdered p b.files × AreKept b.hub b.files × (b.files.table.policy ≡ p)
+
+ordered_on : WhatIsKeptStaysKept → (call : filed.Call) (old new : Files) → filed.Does call old new → AreOrdered old.table.policy old → AreOrdered old.table.policy new
+ordered_on law call old new does ord = (law (call ∷ []) old new (one_call call old new does) ord).0
+
+at_policy : (p : Policy) (files : Files) → files.table.policy ≡ p → AreOrdered p files → AreOrdered files.table.policy files
+at_policy p files same ord = subst (λ (q : Policy). AreOrdered q files) (sym same) ord
+
+to_policy : (p : Policy) (old new : Files) → old.table.policy ≡ p → AreOrdered old.table.policy new → AreOrdered p new
+to_policy p old new same ord = subst (λ (q : Policy). AreOrdered q new) same ord
+
+one : WhatIsKeptStaysKept → (p : Policy) (s : Step) (old new : Both) → Does s old new → Holds p old → Holds p new
+one law p Served old new does h = (
+  subst (λ (f : Files). AreOrdered p f) (sym does.0) h.0,
+  subst (λ (f : Files). AreKept new.hub f) (sym does.0) (served old.files old.hub new.hub does.1 h.1),
+  ap (λ (f : Files). f.table.policy) does.0 ∙ h.2,
+)
+one law p (Filed call) old new does h = (
+  to_policy p old.files new.files h.2 (ordered_on law call old.files new.files does.1 (at_policy p old.files h.2 h.0)),
+  subst (λ (hub : Hub). AreKept hub new.files) (sym does.0) (λ c r f at filed. filed_on law old.hub call old.files new.files does.1 (at_policy p old.files h.2 h.0) h.1 c r f (does.2 c) at filed),
+  does.1.0 ∙ h.2,
+)
+one law p (Begun c call) old new does h = (
+  to_policy p old.files new.files h.2 (ordered_on law call old.files new.files does.1 (at_policy p old.files h.2 h.0)),
+  subst (λ (hub : Hub). AreKept hub new.files) (sym does.0) (begun_on law old.hub c call old.files new.files does.1 does.2 does.3 (at_policy p old.files h.2 h.0) h.1),
+  does.1.0 ∙ h.2,
+)
+one law p (Told c events) old new does h = (
+  subst (λ (f : Files). AreOrdered p f) (sym does.0) h.0,
+  subst (λ (f : Files). AreKept new.hub f) (sym does.0) (kept_in (so_many events) c old.files old.hub new.hub does.1 (λ r f at k. told events r f (does.2 f at) k) h.1),
+  ap (λ (f : Files). f.table.policy) does.0 ∙ h.2,
+)
+one law p (Ended c) old new does h = (
+  subst (λ (f : Files). AreOrdered p f) (sym does.0) h.0,
+  subst (λ (f : Files). AreKept new.hub f) (sym does.0) (kept_in _ c old.files old.hub new.hub does.1 (λ r f at k. absurd (none-some f (sym does.2 ∙ at))) h.1),
+  ap (λ (f : Files). f.table.policy) does.0 ∙ h.2,
+)
+
+all : WhatIsKeptStaysKept → (p : Policy) (steps : List Step) (first last : Both) → Steps steps first last → Holds p first → Holds p last
+all law p [] first last run h = subst (λ (b : Both). Holds p b) (sym run) h
+all law p (s ∷ ss) first last run h = all law p ss run.0 last run.2 (one law p s first run.0 run.1 h)
+
+pub law : WhatIsKeptStaysKept → NothingIsToldBeforeItIsKept
+law grown steps first last run ord kept = let h = all grown first.files.table.policy steps first last run (ord, kept, refl) in (h.0, h.1)
