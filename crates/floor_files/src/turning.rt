@@ -70,7 +70,7 @@ impl Keeping {
         }
     }
 
-    /// What the files ask for, once the server has been told of it.
+    /// What the files ask for, once the server has been told of it; or that nothing is done any more.
     fn next_of_files(&mut self, server: &mut Server, now: u64) -> Option<Deed> {
         self.others = 0;
         match self.files.next(now) {
@@ -81,7 +81,8 @@ impl Keeping {
             }
             None => {
                 self.is_at_files = false;
-                None
+                // By now the epoch may have been waited for too long.
+                self.files.fault().map(|fault| Deed::Fault(fault))
             }
         }
     }

@@ -10,8 +10,8 @@ ghost use Rattle.floor_loop.specs.Written.{Took};
 ghost use Rattle.floor_connections.specs.Steps.{Steps};
 
 use crate::server::Server;
-use floor_connections::Entry;
-use floor_meetings::{Config, Event, HubRefusal, ResumeRefusal};
+use floor_connections::{Connections, Entry, Who};
+use floor_meetings::{Config, Event, HubRefusal, Meetings, ResumeRefusal};
 
 impl Server {
     /// Opens a conference from its configuration and its journal, and has its users' ports listened on: its journal has these
@@ -45,6 +45,7 @@ impl Server {
         let millis = self.connections.millis();
         match self.meetings.resume(self.alloc, config, events, millis) {
             Ok(()) => {
+                note_away(&mut self.connections, &self.meetings, conference);
                 self.connections.tell(Entry::Opened { conference });
                 Ok(())
             }
@@ -52,6 +53,24 @@ impl Server {
                 self.connections.forget(conference);
                 Err(refusal)
             }
+        }
+    }
+}
+
+/// Each live member of a conference is away, so that the log is told when its user is back, or it leaves.
+fn note_away(connections: &mut Connections, meetings: &Meetings, conference: u32)
+    ensures steps { Steps connections.old.sockets connections.new.sockets }
+{
+    let Ok(live) = meetings.hub().members(conference) else {
+        return;
+    };
+    for one in live {
+        match meetings.hub().user_at(one.number) {
+            Some(user) => {
+                let n = one.n;
+                connections.note_away(one.number, Who { conference, user, n });
+            }
+            None => {}
         }
     }
 }

@@ -10,6 +10,7 @@ const RESUMED: &str = "\
 < .
 > found 1
 < file 1
+< .
 # A conference goes on from its file, and its members are away; it is listened only once all files are read.
 > read 1/join/10|2/join/11|
 = goes on with 2
@@ -55,6 +56,7 @@ const TORN: &str = "\
 < .
 > found 1
 < file 1
+< .
 # A last line without its end is cut off before anything is appended.
 > read 1/join/10|2/jo
 = goes on with 1
@@ -85,6 +87,7 @@ const CLOSED: &str = "\
 < .
 > found 1
 < file 1
+< .
 # A conference that was closed gets its end, where that is missing, and its last name, and isn't opened.
 > read 1/join/10|2/close|
 = closed with 2
@@ -110,6 +113,7 @@ const NO_JOURNAL: &str = "\
 < .
 > found 1
 < file 1
+< .
 # The second event isn't taken behind the first: the file stays as it is, and its conference isn't opened.
 > read 1/join/10|2/leave/7|
 = no journal at 2

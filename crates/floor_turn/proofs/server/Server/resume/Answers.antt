@@ -16,7 +16,9 @@ pub returns-in-Err-clause-others : goal.returns-in-Err-clause-others
 returns-in-Err-clause-others c = λ k y live other. took-refl c.args.self.now.meetings.hub k
 
 pub returns-in-Ok-resume-clause-steps : goal.returns-in-Ok-resume-clause-steps
-returns-in-Ok-resume-clause-steps c = steps_then c.args.self.now.connections.sockets c.listen_all.new.self.sockets c.tell.new.self.sockets c.listen_all.ensures.steps (steps_same c.listen_all.new.self.sockets c.tell.new.self.sockets c.tell.ensures.sockets)
+returns-in-Ok-resume-clause-steps c =
+    steps_then c.args.self.now.connections.sockets c.listen_all.new.self.sockets c.tell.new.self.sockets c.listen_all.ensures.steps
+    (steps_then c.listen_all.new.self.sockets c.note_away.new.connections.sockets c.tell.new.self.sockets c.note_away.ensures.steps (steps_same c.note_away.new.connections.sockets c.tell.new.self.sockets c.tell.ensures.sockets))
 
 pub returns-in-Err-resume-clause-steps : goal.returns-in-Err-resume-clause-steps
 returns-in-Err-resume-clause-steps c = steps_then c.args.self.now.connections.sockets c.listen_all.new.self.sockets c.forget.new.self.sockets c.listen_all.ensures.steps c.forget.ensures.steps
