@@ -3,7 +3,6 @@
 use crate::deed::Answer;
 use crate::refusal::OpenRefusal;
 use floor_keeping::{BeginRefusal, Entry, Files, KeepFault, KeptFault, Policy, PutRefusal};
-use floor_room::Phase;
 use floor_turn::{Config, Deed as ServerDeed, Event, HubRefusal, Server};
 use std::alloc::Global;
 
@@ -139,6 +138,7 @@ impl Keeping {
 
     /// Notes in the file of a conference what is kept beside its journal, behind what has happened so far.
     pub fn note(&mut self, server: &Server, conference: u32, entry: &Entry) {
+        self.put(server, conference);
         if self.is_stopping {
             return;
         }
@@ -186,9 +186,10 @@ impl Keeping {
         let Ok(journal) = server.hub().journal(conference) else {
             return;
         };
-        if has_ended(server, conference) {
+        let events = journal.get(done..).unwrap_or(&[]);
+        if has_close(events) {
             self.put_end(conference, journal);
-        } else if has_news(journal, done) {
+        } else if has_news(events) || journal.len() < done {
             self.put_all(conference, journal, &[]);
         }
     }
@@ -213,12 +214,14 @@ impl Keeping {
     }
 }
 
-/// Whether anything but acknowledgements stands behind so many events.
-fn has_news(journal: &[Event], done: usize) -> bool {
-    match journal.get(done..) {
-        Some(events) => events.iter().any(|event| tells(event)),
-        None => true,
-    }
+/// Whether a conference was closed by one of these.
+fn has_close(events: &[Event]) -> bool {
+    events.iter().any(|event| matches!(event, Event::Close))
+}
+
+/// Whether any of these is no acknowledgement.
+fn has_news(events: &[Event]) -> bool {
+    events.iter().any(|event| tells(event))
 }
 
 /// Whether an event may tell something: an acknowledgement doesn't.
@@ -234,14 +237,6 @@ fn tells(event: &Event) -> bool {
         | Event::AddFloor { .. }
         | Event::SetChair { .. }
         | Event::Say { .. } => true,
-    }
-}
-
-/// Whether a conference was closed.
-fn has_ended(server: &Server, conference: u32) -> bool {
-    match server.hub().status(conference) {
-        Ok(status) => status.phase == Phase::Ended,
-        Err(_) => false,
     }
 }
 

@@ -51,7 +51,7 @@ PLANTS = [
     (301, "what a call did isn't put", F + "keeping.rt", "            Some(conference) => self.put(server, conference),", "            Some(_) if B => {}\n            Some(conference) => self.put(server, conference),"),
     (302, "a leave isn't put where nothing else is", F + "keeping.rt", "        Event::Took { .. } => false,", "        Event::Took { .. } => B303,\n        Event::Leave { .. } if B => false,"),
     (303, "acknowledgements are put each by themselves"),
-    (304, "the close isn't put as the end", F + "keeping.rt", "        if has_ended(server, conference) {", "        if !B && has_ended(server, conference) {"),
+    (304, "the close isn't put as the end", F + "keeping.rt", "        if has_close(events) {", "        if !B && has_close(events) {"),
     (305, "leaves of the stop are put", F + "keeping.rt", "        self.is_stopping = true;", "        self.is_stopping = !B;"),
     (306, "who has left by a resume isn't put", F + "starting.rt", "        self.put(server, standing.conference);", "        if !B {\n            self.put(server, standing.conference);\n        }"),
     (307, "what failed to be put is forgotten", F + "keeping.rt", "            Err(PutRefusal::Memory) => self.files.give_up(conference, KeptFault::Memory),", "            Err(PutRefusal::Memory) if B => {}\n            Err(PutRefusal::Memory) => self.files.give_up(conference, KeptFault::Memory),"),

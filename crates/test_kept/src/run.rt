@@ -10,7 +10,7 @@ use floor_files::{
     ServerDeed, Syncing,
 };
 use floor_kept::heads_of;
-use floor_room::{Event, Phase, replay};
+use floor_room::{Event, Phase, add_lines, replay};
 use floor_turn::{Act, Bounds, Grace, MAX_READ, Place};
 use std::alloc::Global;
 use std::collections::VecDeque;
@@ -640,7 +640,11 @@ impl Run {
             _ => false,
         };
         demand(holds, "a file isn't what it says", conference as usize)?;
-        let is_open = self.events(conference).starts_with(found.events.as_slice());
+        let count = found.events.len();
+        let is_open = match self.events(conference).get(..count) {
+            Some(front) => self.lines(front)? == self.lines(found.events.as_slice())?,
+            None => false,
+        };
         demand(
             is_open || !goes_on,
             "a conference doesn't go on from its file",
@@ -650,6 +654,13 @@ impl Run {
             known.is_kept = true;
         }
         Ok(())
+    }
+
+    /// Events as the lines of a journal.
+    fn lines(&self, events: &[Event]) -> Result<String, Fault> {
+        let mut text = String::new(self.alloc);
+        add_lines(self.alloc, &mut text, events, 0)?;
+        Ok(text)
     }
 
     /// So many events are kept: they stand in the file, or the disk has them.
