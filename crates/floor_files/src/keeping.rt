@@ -6,6 +6,10 @@ use floor_keeping::{BeginRefusal, Entry, Files, KeepFault, KeptFault, Policy, Pu
 use floor_turn::{Config, Deed as ServerDeed, Event, HubRefusal, Server};
 use std::alloc::Global;
 
+/// After how long it is looked again whether a conference is let go in which somebody's time is over, in microseconds: our
+/// choice.
+pub const HELD_MICROS: u64 = 10_000;
+
 /// The files of a server's conferences, beside the server.
 ///
 /// - At the start: `new`. `next` asks for the folder and its files, which `found` and `read` take, and for nothing of the
@@ -76,9 +80,13 @@ impl Keeping {
         self.files.text(conference)
     }
 
-    /// When the time is wanted next, in microseconds.
-    pub fn due(&self, server: &mut Server) -> Option<u64> {
-        let of_server = if self.files.is_ready() { server.due() } else { None };
+    /// When the time is wanted next, in microseconds, behind a `next` that gave nothing at this time: later than now.
+    pub fn due(&self, server: &mut Server, now: u64) -> Option<u64> {
+        let of_server = if self.files.is_ready() {
+            later(server.due(), now)
+        } else {
+            None
+        };
         sooner(self.files.due(), of_server)
     }
 
@@ -237,6 +245,14 @@ fn tells(event: &Event) -> bool {
         | Event::AddFloor { .. }
         | Event::SetChair { .. }
         | Event::Say { .. } => true,
+    }
+}
+
+/// A time, or where it has come by now the time by which it is looked at again.
+fn later(time: Option<u64>, now: u64) -> Option<u64> {
+    match time {
+        Some(time) if time <= now => Some(now.saturating_add(HELD_MICROS)),
+        Some(_) | None => time,
     }
 }
 

@@ -21,7 +21,7 @@ pub use floor_keeping::{
     Standing, Syncing,
 };
 pub use floor_turn::{Config, Deed as ServerDeed, HubRefusal, Server};
-pub use keeping::Keeping;
+pub use keeping::{HELD_MICROS, Keeping};
 pub use laws::nothing_is_told_before_it_is_kept;
 pub use refusal::{OpenRefusal, Unresumed};
 pub use turning::MAX_OTHERS;

@@ -7,7 +7,7 @@ use crate::{
     Server, ServerDeed, Syncing, Unresumed,
 };
 use floor_config::read_configs;
-use floor_turn::{Bounds, Entry as Line, Grace};
+use floor_turn::{Act, Bounds, Entry as Line, Grace};
 use std::alloc::{AllocError, Global};
 
 const CONFIGURATION: &str = "[[conference]]
@@ -108,6 +108,10 @@ impl Paged {
             ),
             "close" => {
                 let _closed = self.server.close(conference, now);
+            }
+            "act" => {
+                let act = Act::SetChair(1, Some(10));
+                let _done = self.server.act(conference, act, now);
             }
             "forget" => {
                 let _forgot = self.server.forget(conference);
@@ -210,7 +214,7 @@ impl Paged {
             match self.keeping.next(&mut self.server, now) {
                 None => {
                     text.push_str("< .")?;
-                    if let Some(due) = self.keeping.due(&mut self.server) {
+                    if let Some(due) = self.keeping.due(&mut self.server, now) {
                         write!(text, " {}", due / 1_000)?;
                     }
                     return text.push_str("\n");

@@ -217,3 +217,81 @@ fn the_disk_is_asked_once_a_second(rt: HostRuntime) -> Result<(), AllocError> {
     assert_eq!(rt; difference(rt.alloc(), SECOND, SECONDS)?.as_str(), "");
     Ok(())
 }
+
+const AWAY: &str = "\
+> time 0
+< lock
+< find
+< .
+> found
+< .
+> open
+< log 1 opened
+< listen 0
+> listened 0
+< listen 1
+> listened 1
+< begin 1
+< .
+> knocked 0
+< accept 0
+> accepted 0 5000
+< log 10 joined
+< accept 0
+> accepted 0 5001
+< log 10 joined
+< accept 0
+> nobody 0
+< append 1 1 join 10 | 2 join 10 |
+< kept 1 2
+< .
+# Both are lost, and one stays for its user's sake: away, for 5 s.
+> readable 2
+< read 2
+> failed 2
+< shut 2
+> shut 2
+< log 10 left Reset
+< append 1 3 leave 1 |
+< kept 1 3
+< .
+> disk appends later
+< .
+> readable 3
+< read 3
+> came 3 hello
+< append 1 4 message 2 |
+< .
+# What is told of a socket while its conference is held waits: it is shut, and is away once the append is done.
+> readable 3
+< .
+> appended 1 done
+< kept 1 4
+< write 3 48
+> took 3 48
+< read 3
+> failed 3
+< shut 3
+> shut 3
+< log 10 away Reset
+< . 5000
+> time 4990
+< . 5000
+# Its time is over while the conference is held.
+> act 1
+< append 1 5 took 2 | 6 chair 1 |
+< . 5000
+> time 5000
+< . 5010
+> appended 1 done
+< kept 1 6
+< log 10 gone
+< append 1 7 leave 2 |
+< .
+";
+
+#[test]
+fn who_is_away_leaves_once_its_conference_is_let_go(rt: HostRuntime) -> Result<(), AllocError> {
+    assert_eq!(rt; difference(rt.alloc(), NEVER, AWAY)?.as_str(), "");
+    Ok(())
+}
