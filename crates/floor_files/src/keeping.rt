@@ -14,9 +14,9 @@ pub const HELD_MICROS: u64 = 10_000;
 ///
 /// - At the start: `new`. `next` asks for the folder and its files, which `found` and `read` take, and for nothing of the
 ///   server before `is_ready` says that all were read. Then those conferences are opened that have none, by `open`.
-/// - While it runs: `next` in place of the server's; `text` lends what is to be written to a file. Where more than one
-///   call of the server stands between two of `next`, `take_up` behind each; and `port` and `note` in place of what stands
-///   beside a journal.
+/// - While it runs: `next` in place of the server's; `text` lends what is to be written to a file. Behind each call of the
+///   server `take_up`, unless `next` comes then: the server names one conference that it has touched, the last. And `port`
+///   and `note` in place of what stands beside a journal.
 /// - `answered` takes what became of a file's deed.
 /// - `stop` ends it, and the server with it.
 ///

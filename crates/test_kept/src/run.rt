@@ -228,6 +228,8 @@ impl Run {
 
     /// The administrator does something.
     fn act(&mut self, conference: u32, act: Act) {
+        // The last deed's answer may have touched another conference.
+        self.keeping.take_up(&mut self.server);
         let _done = self.server.act(conference, act, self.now);
         self.keeping.take_up(&mut self.server);
         let len = self.events(conference).len();
@@ -551,7 +553,7 @@ impl Run {
         }
     }
 
-    /// The server has ended, where it was stopped, and no append or sync is out. What was appended is on the disk then.
+    /// The server has ended, where it was stopped, and no append or sync is out. What it appended is on the disk then.
     fn see_end(&mut self) -> Result<(), Fault> {
         self.has_ended = true;
         demand(self.has_stopped, "it ends unasked", 0)?;
@@ -563,7 +565,8 @@ impl Run {
             return Ok(());
         }
         for file in self.disk.files.iter() {
-            let holds = file.name != Name::Journal || file.synced == file.bytes.len() || file.is_spoiled;
+            let has_all = file.synced == file.bytes.len() || !file.is_appended;
+            let holds = file.name != Name::Journal || has_all || file.is_spoiled;
             demand(holds, "it ends before the disk has all", file.conference as usize)?;
         }
         Ok(())
@@ -829,7 +832,7 @@ impl Run {
         self.server = Server::with_grace(self.alloc, BOUNDS, self.grace);
         self.keeping = Keeping::new(self.alloc, self.policy, None);
         self.listeners.clear();
-        self.disk.fail(0, 0);
+        self.disk.begin_anew();
         self.ours = None;
         self.is_ours = false;
         self.is_lost = false;
