@@ -121,7 +121,7 @@ impl Folder {
         list(rt, self.alloc, self.path.as_str()).ok()
     }
 
-    /// The bytes of a conference's file; `None` where they can't be read.
+    /// The bytes of a conference's file, once the disk has them; `None` where they can't be read.
     pub fn read<R: Files<File = File>>(&self, rt: &R, conference: u32) -> Option<Vec<u8>> {
         self.read_all(rt, conference).ok()
     }
@@ -130,6 +130,7 @@ impl Folder {
         let path = journal_path(self.alloc, self.path.as_str(), conference)?;
         check_plain(rt, path.as_str())?;
         let mut file = File::open(rt, path.as_str())?;
+        file.sync_data()?;
         let mut bytes = Vec::new(self.alloc);
         file.read_to_end(&mut bytes)?;
         Ok(bytes)

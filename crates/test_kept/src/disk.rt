@@ -21,8 +21,6 @@ pub struct Stored {
     pub bytes: Vec<u8>,
     /// How many of the bytes the disk has for certain.
     pub synced: usize,
-    /// Whether the process that runs has appended to it.
-    pub is_appended: bool,
     /// Whether nobody opens it any more, since its first byte was written over or it was emptied.
     pub is_spoiled: bool,
 }
@@ -143,7 +141,6 @@ impl Disk {
             name: Name::Journal,
             synced: text.len(),
             bytes,
-            is_appended: false,
             is_spoiled: false,
         })?;
         Ok(Outcome::Done)
@@ -152,17 +149,8 @@ impl Disk {
     pub fn add(&mut self, conference: u32, text: &[u8]) -> Result<(), Fault> {
         if let Some(file) = self.journal_mut(conference) {
             file.bytes.extend_from_slice(text)?;
-            file.is_appended = true;
         }
         Ok(())
-    }
-
-    /// Another process runs.
-    pub fn begin_anew(&mut self) {
-        self.fail(0, 0);
-        for file in self.files.iter_mut() {
-            file.is_appended = false;
-        }
     }
 
     fn cut(&mut self, conference: u32, len: usize) {
@@ -172,7 +160,8 @@ impl Disk {
         }
     }
 
-    fn sync(&mut self, conference: u32, len: usize) {
+    /// The disk has the first so many bytes of a conference's file for certain.
+    pub fn sync(&mut self, conference: u32, len: usize) {
         if let Some(file) = self.journal_mut(conference) {
             file.synced = file.synced.max(len).min(file.bytes.len());
         }

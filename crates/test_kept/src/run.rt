@@ -553,7 +553,7 @@ impl Run {
         }
     }
 
-    /// The server has ended, where it was stopped, and no append or sync is out. What it appended is on the disk then.
+    /// The server has ended, where it was stopped, and no append or sync is out. All that was appended is on the disk then.
     fn see_end(&mut self) -> Result<(), Fault> {
         self.has_ended = true;
         demand(self.has_stopped, "it ends unasked", 0)?;
@@ -565,7 +565,7 @@ impl Run {
             return Ok(());
         }
         for file in self.disk.files.iter() {
-            let has_all = file.synced == file.bytes.len() || !file.is_appended;
+            let has_all = file.synced == file.bytes.len();
             let holds = file.name != Name::Journal || has_all || file.is_spoiled;
             demand(holds, "it ends before the disk has all", file.conference as usize)?;
         }
@@ -620,6 +620,8 @@ impl Run {
 
     /// A conference goes on by what its file says.
     fn read_file(&mut self, conference: u32) -> Result<(), Fault> {
+        // What an earlier process appended is brought to the disk before it is read.
+        self.disk.sync(conference, usize::MAX);
         let Some(file) = self.disk.journal(conference) else {
             return demand(false, "a file is read that there isn't", conference as usize);
         };
@@ -832,7 +834,7 @@ impl Run {
         self.server = Server::with_grace(self.alloc, BOUNDS, self.grace);
         self.keeping = Keeping::new(self.alloc, self.policy, None);
         self.listeners.clear();
-        self.disk.begin_anew();
+        self.disk.fail(0, 0);
         self.ours = None;
         self.is_ours = false;
         self.is_lost = false;
