@@ -1,5 +1,13 @@
 //! The files of a server's conferences, beside the server.
 
+ghost use Rattle.std.specs.Prelude.{◌≡◌, [], None};
+ghost use Rattle.floor_keeping.specs.Epochs as epoch;
+ghost use Rattle.floor_keeping.specs.Files.{file_at, kept_of, lent_of};
+ghost use Rattle.floor_keeping.specs.Folder as folder;
+ghost use Rattle.floor_keeping.specs.Table.{takes};
+ghost use Rattle.floor_keeping.specs.declared.epoch.Reading.TheVariants as reading;
+ghost use Rattle.floor_keeping.specs.declared.folder.Stage.TheVariants as stage;
+
 use crate::deed::Answer;
 use crate::refusal::OpenRefusal;
 use floor_keeping::{BeginRefusal, Entry, Files, KeepFault, KeptFault, Policy, PutRefusal};
@@ -42,7 +50,14 @@ pub struct Keeping {
 
 impl Keeping {
     /// No file of a folder of which nothing is known. Its epoch has to be this one, where that is said. Takes no memory.
-    pub fn new(alloc: Global, policy: Policy, ours: Option<u64>) -> Keeping {
+    pub fn new(alloc: Global, policy: Policy, ours: Option<u64>) -> Keeping
+        ensures table { result.files.table
+            ≡ record { policy = policy; files = []; time = 0; is_last = false } }
+        ensures epoch { result.files.epoch
+            ≡ record { ours = ours; reading = reading.Unread } }
+        ensures folder { result.files.folder
+            ≡ record { stage = stage.New; unread = []; reading = None } }
+    {
         Keeping {
             files: Files::new(alloc, policy, ours),
             policy,
@@ -56,27 +71,37 @@ impl Keeping {
     }
 
     /// Whether the folder was looked at, and all of its files were read.
-    pub fn is_ready(&self) -> bool {
+    pub fn is_ready(&self) -> bool
+        ensures value { result ≡ folder.is_ready self.now.files.folder }
+    {
         self.files.is_ready()
     }
 
     /// Why nothing is done any more.
-    pub fn fault(&self) -> Option<KeepFault> {
+    pub fn fault(&self) -> Option<KeepFault>
+        ensures value { result ≡ epoch.fault_of self.now.files.epoch.reading }
+    {
         self.files.fault()
     }
 
     /// Whether more may be put to the file of a conference: it has one, which hasn't failed, and wasn't closed.
-    pub fn is_kept(&self, conference: u32) -> bool {
+    pub fn is_kept(&self, conference: u32) -> bool
+        ensures value { result ≡ takes (file_at self.now.files conference) }
+    {
         self.files.is_kept(conference)
     }
 
     /// How many events of a conference are kept; `None` where it has no file.
-    pub fn kept(&self, conference: u32) -> Option<usize> {
+    pub fn kept(&self, conference: u32) -> Option<usize>
+        ensures value { result ≡ kept_of (file_at self.now.files conference) }
+    {
         self.files.kept(conference)
     }
 
     /// What is to be written or appended to the file of a conference; nothing where neither is asked.
-    pub fn text(&self, conference: u32) -> &[u8] {
+    pub fn text(&self, conference: u32) -> &[u8]
+        ensures value { result.now ≡ lent_of (file_at self.now.files conference) }
+    {
         self.files.text(conference)
     }
 
