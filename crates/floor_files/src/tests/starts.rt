@@ -28,8 +28,8 @@ const RESUMED: &str = "\
 > knocked 0
 < accept 0
 > accepted 0 5000
-< log 10 joined
 < log 10 back
+< log 10 joined
 < accept 0
 > nobody 0
 < append 1 3 join 10 | 4 leave 1 |
