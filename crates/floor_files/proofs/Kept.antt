@@ -2,10 +2,10 @@
 use Rattle.std.proofs.Common.{◌≡◌, ◌≢◌, ◌<◌, ◌≤◌, ℕ, Bool, true, false, List, [], ◌∷◌, ◌++◌, length, refl, sym, ◌∙◌, ap, subst, arith, inl, inr, append-nil}
 use Rattle.std.specs.Prelude.{◌⊎◌, ◌||◌, All, leb, max, min, nat_eq, take, Option, Some, None}
 use Rattle.std.proofs.lemmas.Bool.Decides.{eqb_tells, leb_tells}
-use Rattle.std.proofs.lemmas.List.{length-append, length-take, take-append-le}
+use Rattle.std.proofs.lemmas.List.{length-append, length-take-le, take-append-le}
 use Rattle.std.proofs.lemmas.List.Elements.{All-nil}
 use Rattle.std.proofs.lemmas.Option.{none-some}
-use Rattle.std.proofs.Math.Nat.{max-eq_left, max-eq_right}
+use Rattle.std.proofs.Math.Nat.{max-eq_left, max-eq_right, min-le_left, min-le_right}
 use Rattle.floor_machine.specs.declared.event.Event.{Event}
 use Rattle.floor_room.specs.Room.{Room}
 use Rattle.floor_hub.specs.Hub.{Hub, room_at}
@@ -59,47 +59,48 @@ grows r f g more k = record {
 }
 
 -- so many are told to be kept
-told : (events : ℕ) (r : Room) (f : KeptFile) → events ≤ f.state.kept → IsKeptBy r f → IsKeptBy (record r { kept = so_many events r }) f
-told events r f enough k = by (leb_tells (min events (length r.ledger.journal)) r.kept)
+by_count : (m : ℕ) (r : Room) (f : KeptFile) → m ≤ length r.ledger.journal → m ≤ f.state.kept → IsKeptBy r f → IsKeptBy (record r { kept = max r.kept m }) f
+by_count m r f within enough k = by (leb_tells m r.kept)
   where
-    m : ℕ
-    m = min events (length r.ledger.journal)
-    by : (((leb m r.kept ≡ true) × (m ≤ r.kept)) ⊎ ((leb m r.kept ≡ false) × (r.kept < m))) → IsKeptBy (record r { kept = so_many events r }) f
-    by (inl u) =
-        let same : so_many events r ≡ r.kept = max-eq_left u.1 in
-        subst (λ (i : ℕ). IsKeptBy (record r { kept = i }) f) (sym same) k
+    by : (((leb m r.kept ≡ true) × (m ≤ r.kept)) ⊎ ((leb m r.kept ≡ false) × (r.kept < m))) → IsKeptBy (record r { kept = max r.kept m }) f
+    by (inl u) = subst (λ (i : ℕ). IsKeptBy (record r { kept = i }) f) (sym (max-eq_left u.1)) k
     by (inr u) =
         let less = u.1 in
-        let same : so_many events r ≡ m = max-eq_right (omega (arith, less)) in
-        subst (λ (i : ℕ). IsKeptBy (record r { kept = i }) f) (sym same) (record {
-          within = omega arith;
+        let not_more : r.kept ≤ m = omega (arith, less) in
+        subst (λ (i : ℕ). IsKeptBy (record r { kept = i }) f) (sym (max-eq_right not_more)) (record {
+          within = within;
           events = take m r.ledger.journal;
           left = [];
           parts = sym (append-nil (take m r.ledger.journal));
-          stand = (let len = length-take m r.ledger.journal in omega (arith, len, enough));
+          stand = (let len = length-take-le m r.ledger.journal within in omega (arith, len, enough));
           leaves = All-nil IsLeave;
         })
+
+told : (events : ℕ) (r : Room) (f : KeptFile) → events ≤ f.state.kept → IsKeptBy r f → IsKeptBy (record r { kept = so_many events r }) f
+told events r f enough k =
+    let first = min-le_left events (length r.ledger.journal) in
+    by_count (min events (length r.ledger.journal)) r f (min-le_right events (length r.ledger.journal)) (omega (arith, first, enough)) k
 
 -- rooms, each of which is as it was or kept by its file
 same_room : (r n : Room) (f : KeptFile) → n ≡ r → IsKeptBy r f → IsKeptBy n f
 same_room r n f same k = subst (λ (x : Room). IsKeptBy x f) (sym same) k
 
 served : (files : Files) (old new : Hub) → SameKept old new files → AreKept old files → AreKept new files
-served files old new same kept = λ c n f at filed. by c n f at filed (room_at old c) refl
+served files old new same kept = λ c n f at has. by c n f at has (room_at old c) refl
   where
     by : (c : ℕ) (n : Room) (f : KeptFile) → room_at new c ≡ Some n → file_at files c ≡ Some f → (o : Option Room) → room_at old c ≡ o → IsKeptBy n f
-    by c n f at filed None was = absurd (none-some f (sym ((same c n at).1 was) ∙ filed))
-    by c n f at filed (Some r) was = goes_on r n f ((same c n at).0 r was) (kept c r f was filed)
+    by c n f at has None was = absurd (none-some f (sym ((same c n at).1 was) ∙ has))
+    by c n f at has (Some r) was = goes_on r n f ((same c n at).0 r was) (kept c r f was has)
 
 kept_in : (count : Room → ℕ) (c : ℕ) (files : Files) (old new : Hub) → KeepsIn count c old new → ((r : Room) (f : KeptFile) → file_at files c ≡ Some f → IsKeptBy r f → IsKeptBy (record r { kept = count r }) f) → AreKept old files
     → AreKept new files
-kept_in count c files old new k here kept = λ d n f at filed. by d n f at filed (eqb_tells c d)
+kept_in count c files old new k here kept = λ d n f at has. by d n f at has (eqb_tells c d)
   where
     by : (d : ℕ) (n : Room) (f : KeptFile) → room_at new d ≡ Some n → file_at files d ≡ Some f → (((nat_eq c d ≡ true) × (c ≡ d)) ⊎ ((nat_eq c d ≡ false) × (c ≢ d))) → IsKeptBy n f
-    by d n f at filed (inl u) =
-        let filed_here : file_at files c ≡ Some f = ap (λ (i : ℕ). file_at files i) u.1 ∙ filed in
+    by d n f at has (inl u) =
+        let filed_here : file_at files c ≡ Some f = ap (λ (i : ℕ). file_at files i) u.1 ∙ has in
         same_room (record k.before { kept = count k.before }) n f (sym (room-same _ n (sym k.now ∙ ap (λ (i : ℕ). room_at new i) u.1 ∙ at))) (here k.before f filed_here (kept c k.before f k.was filed_here))
-    by d n f at filed (inr u) = kept d n f (sym (k.others d u.0) ∙ at) filed
+    by d n f at has (inr u) = kept d n f (sym (k.others d u.0) ∙ at) has
 
 -- the files go on
 one_call : (call : filed.Call) (old new : Files) → filed.Does call old new → filed.Calls (call ∷ []) old new
@@ -110,17 +111,17 @@ or-none b e = ap (λ (x : Bool). x || false) e
 
 filed_on : WhatIsKeptStaysKept → (h : Hub) (call : filed.Call) (old new : Files) → filed.Does call old new → AreOrdered old.table.policy old → AreKept h old
     → (c : ℕ) (r : Room) (f : KeptFile) → begins_it c call ≡ false → room_at h c ≡ Some r → file_at new c ≡ Some f → IsKeptBy r f
-filed_on law h call old new does ord kept c r f none at filed =
-    let g : Grew old c f = (law (call ∷ []) old new (one_call call old new does) ord).1 c f filed (or-none (begins_it c call) none) in
+filed_on law h call old new does ord kept c r f none at has =
+    let g : Grew old c f = (law (call ∷ []) old new (one_call call old new does) ord).1 c f has (or-none (begins_it c call) none) in
     grows r g.file f g.kept (kept c r g.file at g.there)
 
 begun_on : WhatIsKeptStaysKept → (h : Hub) (c : ℕ) (call : filed.Call) (old new : Files) → filed.Does call old new → ((k : ℕ) → nat_eq c k ≡ false → begins_it k call ≡ false)
     → ((f : KeptFile) (r : Room) → file_at new c ≡ Some f → room_at h c ≡ Some r → IsKeptBy r f) → AreOrdered old.table.policy old → AreKept h old → AreKept h new
-begun_on law h c call old new does others here ord kept = λ d r f at filed. by d r f at filed (eqb_tells c d)
+begun_on law h c call old new does others here ord kept = λ d r f at has. by d r f at has (eqb_tells c d)
   where
     by : (d : ℕ) (r : Room) (f : KeptFile) → room_at h d ≡ Some r → file_at new d ≡ Some f → (((nat_eq c d ≡ true) × (c ≡ d)) ⊎ ((nat_eq c d ≡ false) × (c ≢ d))) → IsKeptBy r f
-    by d r f at filed (inl u) = here f r (ap (λ (i : ℕ). file_at new i) u.1 ∙ filed) (ap (λ (i : ℕ). room_at h i) u.1 ∙ at)
-    by d r f at filed (inr u) = filed_on law h call old new does ord kept d r f (others d u.0) at filed
+    by d r f at has (inl u) = here f r (ap (λ (i : ℕ). file_at new i) u.1 ∙ has) (ap (λ (i : ℕ). room_at h i) u.1 ∙ at)
+    by d r f at has (inr u) = filed_on law h call old new does ord kept d r f (others d u.0) at has
 
 -- each step
 Holds : Policy → Both → Type 0
@@ -143,7 +144,7 @@ one law p Served old new does h = (
 )
 one law p (Filed call) old new does h = (
   to_policy p old.files new.files h.2 (ordered_on law call old.files new.files does.1 (at_policy p old.files h.2 h.0)),
-  subst (λ (hub : Hub). AreKept hub new.files) (sym does.0) (λ c r f at filed. filed_on law old.hub call old.files new.files does.1 (at_policy p old.files h.2 h.0) h.1 c r f (does.2 c) at filed),
+  subst (λ (hub : Hub). AreKept hub new.files) (sym does.0) (λ c r f at has. filed_on law old.hub call old.files new.files does.1 (at_policy p old.files h.2 h.0) h.1 c r f (does.2 c) at has),
   does.1.0 ∙ h.2,
 )
 one law p (Begun c call) old new does h = (

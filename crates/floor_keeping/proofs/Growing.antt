@@ -5,12 +5,12 @@ use Rattle.std.specs.Option.{option_map}
 use Rattle.std.proofs.lemmas.Bool.{false≢true}
 use Rattle.std.proofs.lemmas.Bool.Decides.{eqb_tells, leb_tells}
 use Rattle.std.proofs.lemmas.Option.{none-some}
-use Rattle.floor_keep.specs.declared.kept.KeptFault.TheVariants as kept
+use Rattle.floor_keep.specs.declared.kept.KeptFault.TheVariants as fault
 use Rattle.floor_keeping.specs.Calls.{Call, Calls, Begin, Resume, Put, Close, Answered, Read, Next, Other, DoesFiles, begin_it, begins_it}
 use Rattle.floor_keeping.specs.Deeds.{conference_of}
 use Rattle.floor_keeping.specs.Files.{Files, file_at, until_at}
 use Rattle.floor_keeping.specs.Growing.{AreOrdered, Grew, IsOrdered, WhatIsKeptStaysKept}
-use Rattle.floor_keeping.specs.Kept.{KeptFile, ask, asked_of, changed, changed_state, close, put}
+use Rattle.floor_keeping.specs.Kept.{KeptFile, ask, asked_of, begins, changed, changed_state, close, course_of, front_of, put, resumes}
 use Rattle.floor_keeping.specs.State as state
 use Rattle.floor_keeping.specs.State.{asking, asks_in_turn, failed, is_append, is_done, sync_time, synced_as, unsynced, with_events, written}
 use Rattle.floor_keeping.specs.Table.{AsksOf, SameOthers, Took, left_by}
@@ -24,9 +24,10 @@ use Rattle.floor_keeping.specs.declared.state.Asked.TheVariants as asked
 use Rattle.floor_keeping.specs.declared.state.Course.{Course}
 use Rattle.floor_keeping.specs.declared.state.Course.TheVariants as course
 use Rattle.floor_keeping.specs.declared.state.Front.{Front}
+use Rattle.floor_keeping.specs.declared.state.Front.TheVariants as front
 use Rattle.floor_keeping.specs.declared.state.State.{State}
 use Rattle.floor_keeping.proofs.Calm.{Calm, calm_begun, calm_cut, calm_emptied, calm_failed, calm_given_up, calm_renamed, calm_spoiled, calm_unsynced}
-use Rattle.floor_keeping.proofs.Listing.{some-same}
+use Rattle.floor_keeping.proofs.Listing.{some-same, time-same}
 use Rattle.floor_keeping.proofs.Owned.{same-policy}
 
 -- from one state to the next it stays in order, and no fewer are kept
@@ -88,10 +89,10 @@ by_written p now s o = by (asks_in_turn p.syncing) refl
 by_appended : (p : Policy) (now : ℕ) (o : Outcome) (s : State) → IsOrdered p s → Onward p s (state.appended p now o s)
 by_appended p now o s ord = by (is_append s.asked) (is_done o)
   where
-    by : (a b : Bool) → Onward p s (if not a then s else if b then written p now s else failed p kept.CannotWrite s)
+    by : (a b : Bool) → Onward p s (if not a then s else if b then written p now s else failed p fault.CannotWrite s)
     by false b = stays p s ord
     by true true = by_written p now s ord
-    by true false = calm p s (failed p kept.CannotWrite s) (calm_failed p kept.CannotWrite s) ord
+    by true false = calm p s (failed p fault.CannotWrite s) (calm_failed p fault.CannotWrite s) ord
 
 -- the disk has what stood there when it was asked
 by_synced : (p : Policy) (o : Outcome) (s : State) → IsOrdered p s → Onward p s (state.synced p o s)
@@ -164,19 +165,12 @@ by_asked p asked.Sync s o = record {
     kept = o.kept;
     sent = o.sent;
     written = o.written;
-    synced = λ e h. (let same = number e h in omega (arith, same));
+    synced = λ e h. (let same = time-same s.written e h in omega (arith, same));
     in_turn = o.in_turn;
-    asked = λ e h k. (let same = number e k in let a = o.in_turn h in omega (arith, same, a));
+    asked = λ e h k. (let same = time-same s.written e k in let a = o.in_turn h in omega (arith, same, a));
   };
   kept = omega arith;
 }
-  where
-    number : (e : ℕ) → Some s.written ≡ Some e → s.written ≡ e
-    number e h = ap (λ (x : Option ℕ). or x) h
-      where
-        or : Option ℕ → ℕ
-        or None = 0
-        or (Some x) = x
 by_asked p asked.Rename s o = by_asking p asked.Rename s o
 by_asked p asked.Spoil s o = by_asking p asked.Spoil s o
 by_asked p asked.Empty s o = by_asking p asked.Empty s o
@@ -212,8 +206,8 @@ record Comes (p : Policy) (before : Option KeptFile) (begins : Bool) (g : KeptFi
   pub ordered : IsOrdered p g.state
   pub grew : begins ≡ false → (f : KeptFile) × (before ≡ Some f) × (f.state.kept ≤ g.state.kept)
 
-fresh : (p : Policy) (n : ℕ) (front : Front) (c : Course) → IsOrdered p (with_events n front c)
-fresh p n front c = record {
+fresh : (p : Policy) (n : ℕ) (begin : Front) (c : Course) → IsOrdered p (with_events n begin c)
+fresh p n begin c = record {
   kept = omega arith;
   sent = omega arith;
   written = omega arith;
@@ -240,10 +234,10 @@ of_one p k c begins old new g others is ord mine = by (eqb_tells k c)
     by (inl u) = mine u.0 u.1
     by (inr u) = same p (old c) (new c) begins g (others c u.0) is ord
 
-begun : (p : Policy) (k c n : ℕ) (front : Front) (co : Course) (f : KeptFile) (old new : ℕ → Option KeptFile) (g : KeptFile) → f.state ≡ with_events n front co → new k ≡ Some f → SameOthers k old new → new c ≡ Some g
+begun : (p : Policy) (k c n : ℕ) (begin : Front) (co : Course) (f : KeptFile) (old new : ℕ → Option KeptFile) (g : KeptFile) → f.state ≡ with_events n begin co → new k ≡ Some f → SameOthers k old new → new c ≡ Some g
     → ((x : KeptFile) → old c ≡ Some x → IsOrdered p x.state) → Comes p (old c) (nat_eq k c) g
-begun p k c n front co f old new g known here others is ord = of_one p k c (nat_eq k c) old new g others is ord (λ e its. record {
-  ordered = subst (λ (x : KeptFile). IsOrdered p x.state) (some-same f g (sym here ∙ ap (λ (i : ℕ). new i) its ∙ is)) (subst (λ (s : State). IsOrdered p s) (sym known) (fresh p n front co));
+begun p k c n begin co f old new g known here others is ord = of_one p k c (nat_eq k c) old new g others is ord (λ e its. record {
+  ordered = subst (λ (x : KeptFile). IsOrdered p x.state) (some-same f g (sym here ∙ ap (λ (i : ℕ). new i) its ∙ is)) (subst (λ (s : State). IsOrdered p s) (sym known) (fresh p n begin co));
   grew = λ h. absurd (false≢true (sym h ∙ e));
 })
 
@@ -283,8 +277,8 @@ asked_comes p c now k b d old new g a is ord = of_one p k c b old new g a.others
 -- by each call
 comes : (p : Policy) (c : ℕ) (call : Call) (old new : Files) (g : KeptFile) → DoesFiles p call old new → file_at new c ≡ Some g → ((f : KeptFile) → file_at old c ≡ Some f → IsOrdered p f.state)
     → Comes p (file_at old c) (begins_it c call) g
-comes p c (Begin k head) old new g does is ord = begun p k c 0 _ _ _ (file_at old) (file_at new) g refl does.0 does.1 is ord
-comes p c (Resume standing) old new g does is ord = begun p standing.conference c standing.events _ _ _ (file_at old) (file_at new) g refl does.0 does.1 is ord
+comes p c (Begin k head) old new g does is ord = begun p k c 0 front.New course.GoesOn (begins head) (file_at old) (file_at new) g refl does.0 does.1 is ord
+comes p c (Resume standing) old new g does is ord = begun p standing.conference c standing.events (front_of standing.stands standing.torn) (course_of standing.finish) (resumes standing) (file_at old) (file_at new) g refl does.0 does.1 is ord
 comes p c (Put k turn) old new g does is ord =
     put_comes p k c (length turn.journal) false (put turn.journal turn.notes) (file_at old) (file_at new) g (λ f longer o. by_put p (length turn.journal) f.state.course f.state longer o) does is ord
 comes p c (Close k journal) old new g does is ord =
