@@ -21,6 +21,8 @@ pub struct Stored {
     pub bytes: Vec<u8>,
     /// How many of the bytes the disk has for certain.
     pub synced: usize,
+    /// Whether an append to it has failed: what it wrote in part isn't asked of the disk.
+    pub has_failed: bool,
     /// Whether nobody opens it any more, since its first byte was written over or it was emptied.
     pub is_spoiled: bool,
 }
@@ -115,6 +117,9 @@ impl Disk {
                 if part.len() < text.len() {
                     self.add(conference, part)?;
                 }
+                if let Some(file) = self.journal_mut(conference) {
+                    file.has_failed = true;
+                }
             }
             return Ok(Outcome::Failed);
         }
@@ -141,6 +146,7 @@ impl Disk {
             name: Name::Journal,
             synced: text.len(),
             bytes,
+            has_failed: false,
             is_spoiled: false,
         })?;
         Ok(Outcome::Done)

@@ -92,6 +92,8 @@ pub struct Run {
     ours: Option<u64>,
     is_ours: bool,
     is_lost: bool,
+    /// Whether the epoch couldn't be read at any time.
+    was_hidden: bool,
     /// Whether the conferences of the configuration were opened, the server was stopped, and its process has ended.
     has_opened: bool,
     has_stopped: bool,
@@ -139,6 +141,7 @@ impl Run {
             ours: None,
             is_ours: false,
             is_lost: false,
+            was_hidden: false,
             has_opened: false,
             has_stopped: false,
             has_ended: false,
@@ -195,6 +198,7 @@ impl Run {
             Happening::Fence => self.disk.epoch = self.disk.epoch.wrapping_add(1),
             Happening::Hide(is_hidden) => {
                 self.disk.is_hidden = is_hidden;
+                self.was_hidden = self.was_hidden || is_hidden;
                 self.sound_from = self.now.saturating_add(READ_AGAIN);
             }
             Happening::Stop => {
@@ -341,7 +345,7 @@ impl Run {
                 Deed::Server(deed) => self.do_deed(deed)?,
                 Deed::File(deed) => self.do_file(deed)?,
                 Deed::Fault(fault) => {
-                    let holds = self.is_lost || (self.disk.is_hidden && fault == KeepFault::CannotKeep);
+                    let holds = self.is_lost || (self.was_hidden && fault == KeepFault::CannotKeep);
                     self.has_ended = true;
                     return match demand(holds, "it ends by a fault that there isn't", 0) {
                         Ok(()) => Ok(true),
@@ -565,7 +569,7 @@ impl Run {
             return Ok(());
         }
         for file in self.disk.files.iter() {
-            let has_all = file.synced == file.bytes.len();
+            let has_all = file.synced == file.bytes.len() || file.has_failed;
             let holds = file.name != Name::Journal || has_all || file.is_spoiled;
             demand(holds, "it ends before the disk has all", file.conference as usize)?;
         }
@@ -822,7 +826,9 @@ impl Run {
                 Some(known) => known.generation == peer.generation,
                 None => false,
             };
-            if peer.n != 0 && is_here && !peer.is_excused {
+            // What a file told that had to be made one that nobody opens is gone with it: its conference went on unkept.
+            let is_gone = self.disk.last(peer.conference).is_some_and(|file| file.is_spoiled);
+            if peer.n != 0 && is_here && !peer.is_excused && !is_gone {
                 let holds = self.calls_for(peer, peer.taken.as_slice())?;
                 demand(holds, "what was told is lost", number)?;
             }
@@ -838,6 +844,7 @@ impl Run {
         self.ours = None;
         self.is_ours = false;
         self.is_lost = false;
+        self.was_hidden = self.disk.is_hidden;
         self.has_opened = false;
         self.has_stopped = false;
         self.has_ended = false;
