@@ -18,6 +18,7 @@ mod machine;
 mod marks;
 mod member;
 mod members;
+mod named;
 mod outcome;
 mod parcel;
 mod replied;
