@@ -26,6 +26,7 @@ mod reply;
 mod running;
 mod said;
 mod serve;
+mod spare;
 mod tell;
 
 pub use act::Act;

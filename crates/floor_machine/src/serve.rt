@@ -60,7 +60,7 @@ impl State {
         let alloc = self.members.allocator();
         // The requests ascend, so that no two have one number.
         let _ongoing = self.requests.ongoing();
-        match self.change(alloc, decision.change)? {
+        match self.change(decision.change)? {
             Some(mut course) => {
                 let changes = self.settle(alloc, &mut course)?;
                 put_shown(changes.updates.as_slice(), changed)?;
@@ -72,6 +72,7 @@ impl State {
                 let reply = outcome.answer(alloc, sender, decision.reply)?;
                 let said = handed(alloc, &reply)?;
                 self.tell(alloc, &changes, &reply, out)?;
+                self.spare.keep(course, changes);
                 Ok(said)
             }
             // Its sender alone is told anything, and nothing that is shown is looked at.
@@ -117,7 +118,8 @@ impl State {
             config: &self.config,
             requests: &self.requests,
         };
-        renew(alloc, &settled, course, &mut self.shown)
+        let changes = self.spare.take_changes();
+        renew(alloc, &settled, course, &mut self.shown, changes)
     }
 
     /// Tells each live member what the event changed, or cuts it. After an error `out` is as it was.
