@@ -8,5 +8,6 @@ pub mod Deciding
 pub mod Renewing
 pub mod Serving
 pub mod Counting
+pub mod Replies
 pub mod Outcomes
 pub mod Frame
