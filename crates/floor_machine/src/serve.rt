@@ -153,7 +153,7 @@ impl State {
         let conference = self.config.conference();
         let floors = watched_floors(alloc, &self.config, &self.members, &changes.floors)?;
         let notices = floor_notices(alloc, conference, &floors, &self.shown)?;
-        let mut parcels = Vec::new(alloc);
+        let mut parcels = emptied(out);
         let due = Due {
             conference,
             reply,
@@ -183,11 +183,23 @@ impl State {
         ensures rest { IsAtRest self.new }
     {
         let conference = self.config.conference();
-        let mut parcels = Vec::new(alloc);
+        let mut parcels = emptied(out);
         self.members
             .tell_sender(alloc, &mut parcels, conference, reply)?;
         put_behind(out, parcels)
     }
+}
+
+/// A list for parcels, which has the memory of the other one where none are there. Takes no memory.
+fn emptied(out: &mut Vec<Parcel>) -> Vec<Parcel>
+    ensures value { result.items ≡ [] }
+    ensures left { out.new.items ≡ out.old.items }
+{
+    let none = Vec::new(*out.allocator());
+    if out.is_empty() {
+        return mem::replace(out, none);
+    }
+    none
 }
 
 /// Puts parcels behind those that are there, or in place of none. After an error `out` is as it was.
