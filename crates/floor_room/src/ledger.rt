@@ -69,10 +69,12 @@ impl Ledger {
     pub fn new(alloc: Global, config: Config) -> Result<Ledger, AllocError>
         ensures value { IfOk result (λ ledger. ledger ≡ new_ledger config) }
     {
-        let copy = config.copy(alloc)?;
-        let machine = Machine::new(alloc, copy)?;
+        // Both are copies, of exactly their length: what was read stands above the text's tree, and would keep
+        // the memory of that from going back to the system.
+        let opened = config.copy(alloc)?;
+        let machine = Machine::new(alloc, config.copy(alloc)?)?;
         Ok(Ledger {
-            config,
+            config: opened,
             machine,
             journal: Vec::new(alloc),
             copies: Copies::new(alloc),
