@@ -1,5 +1,5 @@
 -- What a call of the hub has done to the rooms.
-use Rattle.std.specs.Prelude.{◌≡◌, ◌≢◌, ◌↔◌, ◌⊎◌, ◌≤◌, ℕ, ◌+◌, List, [], ◌∷◌, ◌++◌, length, nat_eq, if◌then◌else◌, ◌||◌, Bool, true, false, Option, Some, None, is_some, map, max, min, slice_get, take, Result, Ok, Err, MatchResult}
+use Rattle.std.specs.Prelude.{◌≡◌, ◌≢◌, ◌↔◌, ◌⊎◌, ◌≤◌, ◌<◌, ℕ, ◌+◌, List, [], ◌∷◌, ◌++◌, length, nat_eq, if◌then◌else◌, ◌||◌, Bool, true, false, Option, Some, None, is_some, map, max, min, slice_get, take, Result, Ok, Err, MatchResult}
 use Rattle.std.specs.Option.{option_map_or}
 use Rattle.floor_config.specs.Configuration.{Configuration}
 use Rattle.floor_wire.specs.Message.{messages}
@@ -221,6 +221,20 @@ TakenAll (Some x) result before after old new =
 -- no more is taken: so many parcels were, the buffer has so many bytes, or nothing is handed out
 abbrev pub StopsAt : ℕ → ℕ → ℕ → List ℕ → Option Parcel → Type 0
 StopsAt most enough count bytes next = (most ≤ count) ⊎ ((enough ≤ length bytes) ⊎ (next ≡ None))
+
+-- what is handed out to the member n of this room, and nothing where there is no room
+abbrev pub handed_in : Option Room → ℕ → List Parcel
+handed_in None n = []
+handed_in (Some r) n = handed r n
+
+-- what is handed out to a live connection, and nothing without one
+abbrev pub handed_at : Hub → Option Connection → List Parcel
+handed_at h None = []
+handed_at h (Some x) = handed_in (room_at h x.conference) x.n
+
+-- Each of the first of these parcels, so many, was begun where a buffer had less than enough bytes: those before, and those of the parcels before it.
+abbrev pub BegunBelow : ℕ → ℕ → List ℕ → List Parcel → Type 0
+BegunBelow enough count before parcels = (k : ℕ) → k < count → length (before ++ bytes_of (take k parcels)) < enough
 
 -- a live connection is of this conference
 abbrev pub IsAttended : ℕ → Hub → Type 0

@@ -12,7 +12,7 @@ ghost use Rattle.floor_hub.specs.Connections.{Puts, SameConnections, StayLive, c
 ghost use Rattle.floor_hub.specs.Gathers.{Gathers};
 ghost use Rattle.floor_hub.specs.Hub.{is_forgotten, room_at};
 ghost use Rattle.floor_hub.specs.Left.{LeftAt, LeftLeaving, LeftServing, LeftTaking};
-ghost use Rattle.floor_hub.specs.Rooms.{CutIs, Forgets, IsOver, IsRefusedIn, IsRemembered, Joins, KeptOf, OneRoom, Opens, OverIs, RoomOf, SameHub, StopsAt, TakenAll, TakenInto, TakenOf, admin_event, attach_event, by_broken, ended_or_none, first_at, leave_event, refusal_in, serve_event, took_event};
+ghost use Rattle.floor_hub.specs.Rooms.{BegunBelow, CutIs, Forgets, IsOver, IsRefusedIn, IsRemembered, Joins, KeptOf, OneRoom, Opens, OverIs, RoomOf, SameHub, StopsAt, TakenAll, TakenInto, TakenOf, admin_event, attach_event, by_broken, ended_or_none, first_at, handed_at, leave_event, refusal_in, serve_event, took_event};
 ghost use Rattle.floor_hub.specs.Shown.{Shows};
 ghost use Rattle.floor_hub.specs.StandsFor.{StandsFor};
 ghost use Rattle.floor_hub.specs.World.{World, nothing};
@@ -527,6 +527,8 @@ impl Hub {
         ensures whole { IfOk result (λ taken. taken.is_refused ≡ false
             → StopsAt most enough taken.count buffer.new.items
             (first_at self.new (connection_at self.new.connections number))) }
+        ensures begun { IfOk result (λ taken. BegunBelow enough taken.count buffer.old.items
+            (handed_at self.old (connection_at self.old.connections number))) }
         ensures stands { (w : World) → StandsFor self.old w → StandsFor self.new w }
         ensures concerned { self.new.concerned ≡ self.old.concerned }
         ensures changed { self.new.changed ≡ self.old.changed }

@@ -10,7 +10,8 @@ ghost use Rattle.floor_room.specs.Room.{IsRoom, Room as Kept, new_room};
 ghost use Rattle.floor_room.specs.Taking.{Gave};
 ghost use Rattle.floor_room.specs.declared.outbox.NoMember.{NoMember};
 ghost use Rattle.floor_room.specs.declared.refusal.RoomRefusal.{RoomRefusal};
-ghost use Rattle.floor_hub.specs.Rooms.{ended_or_none};
+ghost use Rattle.floor_hub.specs.Concerned.{handed};
+ghost use Rattle.floor_hub.specs.Rooms.{BegunBelow, ended_or_none};
 ghost use Rattle.floor_hub.specs.declared.step.Taken.{Taken as Given};
 ghost use Rattle.floor_hub.specs.steps.Attached.{ConcernedBy, Tells, always, live_in, without};
 ghost use Rattle.floor_hub.specs.steps.Found.{AtRoom};
@@ -331,7 +332,8 @@ pub(crate) fn take_all_room(
         → (new : Kept) × Updates nat_eq rooms.old rooms.new connection.now.conference (Some new)
         × (taken : Given) × (result ≡ Ok taken) × (taken.count ≤ most)
         × TookAll room new connection.now.n buffer.old.items buffer.new.items taken
-        × Stops most enough buffer.new.items new connection.now.n taken }
+        × Stops most enough buffer.new.items new connection.now.n taken
+        × BegunBelow enough taken.count buffer.old.items (handed room connection.now.n) }
 {
     match rooms.get_mut(u64::from(connection.conference)) {
         Some(room) => Ok(take_all_in(room, connection.n, buffer, most, enough)),
@@ -344,6 +346,7 @@ fn take_all_in(room: &mut Room, n: u32, buffer: &mut Vec<u8>, most: u32, enough:
     ensures most { result.count ≤ most }
     ensures took { TookAll room.old room.new n buffer.old.items buffer.new.items result }
     ensures stops { Stops most enough buffer.new.items room.new n result }
+    ensures begun { BegunBelow enough result.count buffer.old.items (handed room.old n) }
 {
     for count in 0..most {
         if enough <= buffer.len() {

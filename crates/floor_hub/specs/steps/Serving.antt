@@ -17,7 +17,7 @@ use Rattle.floor_hub.specs.declared.connection.Connection.{Connection}
 use Rattle.floor_hub.specs.declared.step.Served.{Served}
 use Rattle.floor_hub.specs.declared.step.Taken.{Taken}
 use Rattle.floor_hub.specs.Concerned.{handed}
-use Rattle.floor_hub.specs.Rooms.{StopsAt, TookEach}
+use Rattle.floor_hub.specs.Rooms.{BegunBelow, StopsAt, TookEach}
 use Rattle.floor_hub.specs.Connections.{Connections, Puts}
 use Rattle.floor_machine.specs.declared.machine.Refusal.TheVariants.{Cut, Memory}
 use Rattle.floor_room.specs.declared.refusal.RoomRefusal.TheVariants.{JournalFull, Refused as ByMachine}
@@ -129,4 +129,4 @@ TookNext old new n before after false = (new ≡ old) × (after ≡ before) × (
 -- what is handed out to a connection was taken
 abbrev pub TakeAllOf : ℕ → ℕ → List ℕ → List ℕ → Connection → Option Connection → Room → Room → Result Taken HubRefusal → Type 0
 TakeAllOf most enough before after x y old new result =
-    (y ≡ Some x) × ((taken : Taken) × (result ≡ Ok taken) × (taken.count ≤ most) × TookAll old new x.n before after taken × Stops most enough after new x.n taken)
+    (y ≡ Some x) × ((taken : Taken) × (result ≡ Ok taken) × (taken.count ≤ most) × TookAll old new x.n before after taken × Stops most enough after new x.n taken × BegunBelow enough taken.count before (handed old x.n))

@@ -1,11 +1,11 @@
-use Rattle.std.proofs.Common.{◌≡◌, ◌≤◌, ℕ, Some, None, List, false, refl, sym, ap, subst}
+use Rattle.std.proofs.Common.{◌≡◌, ◌≤◌, ℕ, Some, None, List, [], false, refl, sym, ap, subst}
 use Rattle.std.specs.Prelude.{Option, Result, IfOk, slice_get}
 use Rattle.floor_room.specs.Room.{Room}
 use Rattle.floor_hub.specs.declared.connection.Connection.{Connection}
 use Rattle.floor_hub.specs.declared.refusal.HubRefusal.{HubRefusal}
 use Rattle.floor_hub.specs.declared.step.Taken.{Taken}
 use Rattle.floor_hub.specs.Concerned.{handed}
-use Rattle.floor_hub.specs.Rooms.{StopsAt, TakenAll, first_at, first_in}
+use Rattle.floor_hub.specs.Rooms.{BegunBelow, StopsAt, TakenAll, first_at, first_in, handed_at, handed_in}
 use Rattle.floor_hub.specs.Connections.{connection_at}
 use Rattle.floor_hub.specs.Hub.{Hub, room_at}
 use Rattle.floor_hub.specs.StandsFor.{HaveOutboxes, StandsFor}
@@ -67,9 +67,13 @@ queued c =
 stops : (c : goal.After-take_all_at) (y : Option Connection) → owner c ≡ y →
     IfOk c.take_all_at.result (λ taken. taken.count ≤ c.args.most)
     × IfOk c.take_all_at.result (λ taken. taken.is_refused ≡ false → StopsAt c.args.most c.args.enough taken.count (after c) (first_at (new c) y))
+    × IfOk c.take_all_at.result (λ taken. BegunBelow c.args.enough taken.count (before c) (handed_at (old c) y))
 stops c None is =
-    let a = c.take_all_at.ensures.connection.absent is in
-    (subst (λ (z : Result Taken HubRefusal). IfOk z (λ taken. taken.count ≤ c.args.most)) (sym a.0) tt, subst (λ (z : Result Taken HubRefusal). IfOk z (λ taken. taken.is_refused ≡ false → StopsAt c.args.most c.args.enough taken.count (after c) None)) (sym a.0) tt)
+    let a = c.take_all_at.ensures.connection.absent is in (
+      subst (λ (z : Result Taken HubRefusal). IfOk z (λ taken. taken.count ≤ c.args.most)) (sym a.0) tt,
+      subst (λ (z : Result Taken HubRefusal). IfOk z (λ taken. taken.is_refused ≡ false → StopsAt c.args.most c.args.enough taken.count (after c) None)) (sym a.0) tt,
+      subst (λ (z : Result Taken HubRefusal). IfOk z (λ taken. BegunBelow c.args.enough taken.count (before c) [])) (sym a.0) tt,
+    )
 stops c (Some x) is =
     let r = outbox-room (room_at (old c) x.conference) x.n (c.self.invariant.stood.2 c.args.number x is) in
     let t = c.take_all_at.ensures.connection.there x is r.0 r.1 in
@@ -78,6 +82,8 @@ stops c (Some x) is =
       subst (λ (z : Result Taken HubRefusal). IfOk z (λ taken. taken.count ≤ c.args.most)) (sym d.1) d.2,
       subst (λ (z : Result Taken HubRefusal). IfOk z (λ taken. taken.is_refused ≡ false → StopsAt c.args.most c.args.enough taken.count (after c) (first_in (room_at (new c) x.conference) x.n))) (sym d.1)
           (λ e. subst (StopsAt c.args.most c.args.enough d.0.count (after c)) next (d.4 e)),
+      subst (λ (z : Result Taken HubRefusal). IfOk z (λ taken. BegunBelow c.args.enough taken.count (before c) (handed_in (room_at (old c) x.conference) x.n))) (sym d.1)
+          (subst (λ (z : Option Room). BegunBelow c.args.enough d.0.count (before c) (handed_in z x.n)) (sym r.1) d.5),
     )
 
 pub invariant_of-self : goal.invariant_of-self
@@ -98,3 +104,8 @@ returns-clause-most c = (stops c (owner c) refl).0
 
 pub returns-clause-whole : goal.returns-clause-whole
 returns-clause-whole c = (stops c (owner c) refl).1
+
+pub returns-clause-begun : goal.returns-clause-begun
+returns-clause-begun c =
+    subst (λ (h : Hub). IfOk c.take_all_at.result (λ taken. BegunBelow c.args.enough taken.count (before c) (handed_at h (connection_at h.connections c.args.number)))) c.self.view_is
+    (stops c (owner c) refl).2
