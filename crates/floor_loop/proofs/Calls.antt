@@ -1,6 +1,6 @@
 -- What a loop comes to by each call of its hub.
 use Rattle.std.proofs.Common.{◌≡◌, ◌≢◌, ◌⊎◌, inl, inr, ℕ, ◌+◌, ◌≤◌, ◌++◌, true, false, List, length, refl, sym, ◌∙◌, ap, subst, Some, None}
-use Rattle.std.specs.Prelude.{Option, Result, Ok, Err, IsSome, MatchResult, OnErr, OnOk, nat_eq}
+use Rattle.std.specs.Prelude.{Option, Result, Ok, Err, IfOk, IsSome, MatchResult, OnErr, OnOk, nat_eq}
 use Rattle.std.specs.Option.{option_map}
 use Rattle.std.specs.Map.{lookup}
 use Rattle.std.proofs.lemmas.Bool.Decides.{eqb_tells}
@@ -26,7 +26,7 @@ use Rattle.floor_hub.specs.Gathers.{Gathers}
 use Rattle.floor_hub.specs.Hub.{Hub, room_at}
 use Rattle.floor_hub.specs.Members.{user_of}
 use Rattle.floor_hub.specs.Left.{LeftAt}
-use Rattle.floor_hub.specs.Rooms.{OneRoom, Opens, RoomOf, SameHub, TakenAll, TakenEach, admin_event, attach_event, by_broken, leave_event, refusal_in, say_event, serve_event, took_event}
+use Rattle.floor_hub.specs.Rooms.{BegunBelow, OneRoom, Opens, RoomOf, SameHub, TakenAll, TakenEach, admin_event, attach_event, by_broken, handed_at, handed_in, leave_event, refusal_in, say_event, serve_event, took_event}
 use Rattle.floor_hub.specs.StandsFor.{StandsFor}
 use Rattle.floor_hub.specs.World.{World}
 use Rattle.floor_loop.specs.Loop.{Attended, Loop, Outgoing, outgoing_at, outgoing_in, until_of}
@@ -173,12 +173,15 @@ moved-taken number a b old new stands t few = by (lookup (nat_eq number) a.outgo
 
     -- parcels were taken
     given : (o : Outgoing) (x : Connection) (taken : Taken) → lookup (nat_eq number) a.outgoing ≡ Some o → connection_at old.connections number ≡ Some x →
-        ((parcels : List Parcel) × (taken.count ≡ length parcels) × (t.rest ≡ o.rest ++ bytes_of parcels) × TakenEach x.conference x.n parcels old new) → t.parcels ≡ o.parcels + taken.count → Moved NoSteps (loop_of old a) (loop_of new b)
-    given o x taken is live g count =
+        ((parcels : List Parcel) × (taken.count ≡ length parcels) × (t.rest ≡ o.rest ++ bytes_of parcels) × TakenEach x.conference x.n parcels old new) → t.parcels ≡ o.parcels + taken.count →
+        (o.parcels ≤ 64 → t.parcels ≤ 64) → BegunBelow 65536 taken.count o.rest (handed_at old (connection_at old.connections number)) → Moved NoSteps (loop_of old a) (loop_of new b)
+    given o x taken is live g count few begun =
         let here : outgoing_in b number ≡ Some (carrying t.rest t.parcels o) = ap (λ (es : List (ℕ × Outgoing)). looked es number) t.next ∙ look-here (carrying t.rest t.parcels) number a.outgoing ∙ ap (option_map (carrying t.rest t.parcels)) is in
         let others : (k : ℕ) → nat_eq number k ≡ false → outgoing_in b k ≡ outgoing_in a k = λ k ne. ap (λ (es : List (ℕ × Outgoing)). looked es k) t.next ∙ look-other (carrying t.rest t.parcels) number k a.outgoing ne in
         let parcels : t.parcels ≡ o.parcels + length g.0 = count ∙ ap (λ (k : ℕ). o.parcels + k) g.1 in
-        let all = takes-each (loop_of old a) (loop_of new b) number x o g.0 live is g.3 (carrying t.rest t.parcels o, here, g.2, parcels, refl, refl) others stands in
+        let below =
+        subst (λ (k : ℕ). BegunBelow 65536 k o.rest (handed_in (room_at old x.conference) x.n)) g.1 (subst (λ (z : Option Connection). BegunBelow 65536 taken.count o.rest (handed_at old z)) live begun) in
+        let all = takes-each (loop_of old a) (loop_of new b) number x o g.0 live is g.3 below (λ h. subst (λ (k : ℕ). k ≤ 64) parcels (few h)) (carrying t.rest t.parcels o, here, g.2, parcels, refl, refl) others stands in
         record {
           steps = steps-none NoSteps old new refl stands;
           live = λ k z live. record { connection = z; live = sym (g.3.connections k) ∙ live; conference = refl; n = refl };
@@ -202,13 +205,16 @@ moved-taken number a b old new stands t few = by (lookup (nat_eq number) a.outgo
     Counts : Outgoing → Result Taken HubRefusal → Type 0
     Counts o res = MatchResult res (λ taken. t.parcels ≡ o.parcels + taken.count) (λ _. t.parcels ≡ o.parcels)
 
-    asked : (o : Outgoing) (y : Option Connection) (res : Result Taken HubRefusal) → lookup (nat_eq number) a.outgoing ≡ Some o → connection_at old.connections number ≡ y → TakenAll y res o.rest t.rest old new → Counts o res →
+    asked : (o : Outgoing) (y : Option Connection) (res : Result Taken HubRefusal) → lookup (nat_eq number) a.outgoing ≡ Some o → connection_at old.connections number ≡ y → TakenAll y res o.rest t.rest old new → Counts o res → (o.parcels ≤ 64 → t.parcels ≤ 64) →
+        IfOk res (λ taken. BegunBelow 65536 taken.count o.rest (handed_at old (connection_at old.connections number))) →
         Moved NoSteps (loop_of old a) (loop_of new b)
-    asked o None res is live g count = idle g.2 (untaken number a b old new t.rest t.parcels o is t.next g.1 (subst (Counts o) g.0 count))
-    asked o (Some x) res is live g count = given o x g.0 is live (g.1, g.3, g.4, g.5) (subst (Counts o) g.2 count)
+    asked o None res is live g count few begun = idle g.2 (untaken number a b old new t.rest t.parcels o is t.next g.1 (subst (Counts o) g.0 count))
+    asked o (Some x) res is live g count few begun =
+        given o x g.0 is live (g.1, g.3, g.4, g.5) (subst (Counts o) g.2 count) few
+        (subst (λ (z : Result Taken HubRefusal). IfOk z (λ taken. BegunBelow 65536 taken.count o.rest (handed_at old (connection_at old.connections number)))) g.2 begun)
 
     by : (z : Option Outgoing) → lookup (nat_eq number) a.outgoing ≡ z → Moved NoSteps (loop_of old a) (loop_of new b)
     by None e =
         moved-kept (loop_of old a) (loop_of new b) (t.none e)
         (subst (λ (es : List (ℕ × Outgoing)). KeepsAll (outgoing_in a) (looked es)) (sym (t.next ∙ changed-none (carrying t.rest t.parcels) number a.outgoing e)) (keeps-refl (outgoing_in a))) few
-    by (Some o) e = let h = t.took o e in asked o (connection_at old.connections number) h.result e refl h.given h.count
+    by (Some o) e = let h = t.took o e in asked o (connection_at old.connections number) h.result e refl h.given h.count h.few h.begun

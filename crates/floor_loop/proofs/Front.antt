@@ -1,6 +1,6 @@
 -- What a socket took stays a front of what was taken from the room, and that of what is called for.
 use Rattle.std.proofs.Common.{◌≡◌, ℕ, ◌+◌, ◌-◌, ◌≤◌, List, [], ◌∷◌, ◌++◌, length, take, drop, refl, sym, ◌∙◌, ap, arith, append_assoc, append-nil, length-append}
-use Rattle.std.proofs.lemmas.List.{take-append-le, take-append-drop}
+use Rattle.std.proofs.lemmas.List.{drop_at, take-append-le, take-append-drop}
 use Rattle.std.proofs.Math.Seq.{take-append_seam}
 use Rattle.floor_machine.specs.Parcel.{Parcel}
 use Rattle.floor_room.specs.Replay.{bytes_of}
@@ -27,7 +27,7 @@ within-more ps qs more k e within = omega (arith, ap length e, length-append ps 
 
 -- one more parcel is taken: the next that is called for
 pub takes-next : (all taken held rest : List Parcel) (p : Parcel) (k : ℕ) → length taken ≡ k → all ≡ taken ++ (p ∷ held) ++ rest →
-    (bytes_of (take (k + 1) all) ≡ bytes_of (take k all) ++ p.bytes) × (k + 1 ≤ length all)
+    (bytes_of (take (k + 1) all) ≡ bytes_of (take k all) ++ p.bytes) × (k + 1 ≤ length all) × (bytes_of (drop k (take (k + 1) all)) ≡ p.bytes)
 takes-next all taken held rest p k count e =
     let shape : all ≡ (taken ++ p ∷ []) ++ (held ++ rest) = e ∙ again taken held rest p in
     let many : length (taken ++ p ∷ []) ≡ k + 1 = omega (arith, count, length-append taken (p ∷ [])) in
@@ -35,6 +35,7 @@ takes-next all taken held rest p k count e =
     let now : take k all ≡ taken = ap (λ (i : ℕ). take i all) (sym count) ∙ ap (take (length taken)) (shape ∙ append_assoc taken (p ∷ []) (held ++ rest)) ∙ take-append_seam taken ((p ∷ []) ++ (held ++ rest)) in (
       ap bytes_of next ∙ bytes_of-append taken (p ∷ []) ∙ ap (λ (z : List ℕ). bytes_of taken ++ z) (append-nil p.bytes) ∙ ap (λ (z : List Parcel). bytes_of z ++ p.bytes) (sym now),
       omega (arith, ap length shape, length-append (taken ++ p ∷ []) (held ++ rest), many),
+      ap (λ (z : List Parcel). bytes_of (drop k z)) next ∙ ap bytes_of (drop_at taken (p ∷ []) k count) ∙ append-nil p.bytes,
     )
   where
     again : (taken held rest : List Parcel) (p : Parcel) → taken ++ (p ∷ held) ++ rest ≡ (taken ++ p ∷ []) ++ (held ++ rest)

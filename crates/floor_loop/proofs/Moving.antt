@@ -1,6 +1,6 @@
 -- A loop moves on with its hub.
-use Rattle.std.proofs.Common.{◌≡◌, ◌≢◌, ◌⊎◌, inl, inr, ℕ, zero, suc, ◌+◌, ◌-◌, ◌≤◌, true, false, List, [], ◌∷◌, ◌++◌, length, take, map, refl, sym, ◌∙◌, ap, subst, arith, append_assoc, append-nil, length-append, Some, None}
-use Rattle.std.specs.Prelude.{Option, IsSome, nat_eq, slice_get}
+use Rattle.std.proofs.Common.{◌≡◌, ◌≢◌, ◌⊎◌, inl, inr, ℕ, zero, suc, ◌+◌, ◌-◌, ◌≤◌, true, false, List, [], ◌∷◌, ◌++◌, length, take, drop, map, refl, sym, ◌∙◌, ap, subst, arith, append_assoc, append-nil, length-append, Some, None}
+use Rattle.std.specs.Prelude.{◌<◌, Option, IsSome, nat_eq, slice_get}
 use Rattle.std.specs.Option.{option_map_or}
 use Rattle.std.proofs.lemmas.Bool.Decides.{eqb_tells}
 use Rattle.std.proofs.lemmas.Option.{none-some}
@@ -33,14 +33,14 @@ use Rattle.floor_hub.specs.declared.step.Answer.TheVariants as answer
 use Rattle.floor_hub.specs.World.{Aim, Place, World, aimed, places_after, turn, turn_at, offer}
 use Rattle.floor_machine.specs.Events.{joiner}
 use Rattle.std.specs.Prelude.{filter_map}
-use Rattle.std.proofs.lemmas.List.{get_or_append_left}
+use Rattle.std.proofs.lemmas.List.{get_or_append_left, take-append-le}
 use Rattle.std.proofs.lemmas.List.Elements.{filter_map-append}
 use Rattle.std.proofs.lemmas.Option.{get_or_from_slice_get, slice_get-get_or, slice_get_within}
 use Rattle.floor_loop.specs.Away.{Away, stay_of}
 use Rattle.floor_loop.specs.Returned.{StaysAreOwn}
 use Rattle.floor_loop.specs.Loop.{Attended, Loop, Outgoing, outgoing_at, until_of}
 use Rattle.floor_loop.specs.Done.{AtMost, Each, NoSteps, Reads, Steps, Then}
-use Rattle.floor_loop.specs.Written.{Attends, IsOnItsWay, IsServing, IsTimed, Took, TookNothing, acknowledged, called_for, taken_bytes, written}
+use Rattle.floor_loop.specs.Written.{Attends, IsOnItsWay, IsServing, IsTimed, Took, TookNothing, acknowledged, called_for, last_bytes, taken_bytes, written}
 use Rattle.floor_loop.specs.steps.Moved.{FewerStays, Grows, IsLoop, Keeps, KeepsLive, Moved, WasLive, Went}
 use Rattle.floor_loop.proofs.Over.{over-grows}
 use Rattle.floor_loop.proofs.Watching.{gathers-both, gathers-ledgers, gathers-refl}
@@ -137,6 +137,12 @@ ack-same r s n parcels g within =
     of_first : ℕ → List ℕ
     of_first k = bytes_of (take k (called_for s n))
 
+last-same : (r s : Room) (n : ℕ) → Grows r s → taken_of r n ≤ length (called_for r n) → last_bytes s n ≡ last_bytes r n
+last-same r s n g within =
+    let m = called-more r s n g in
+    let front : take (taken_of r n) (called_for s n) ≡ take (taken_of r n) (called_for r n) = ap (take (taken_of r n)) m.1 ∙ take-append-le (taken_of r n) (called_for r n) m.0 within in
+    ap (λ (k : ℕ). bytes_of (drop (k - 1) (take k (called_for s n)))) (g.taken n) ∙ ap (λ (z : List Parcel). bytes_of (drop (taken_of r n - 1) z)) front
+
 pub way-grows : (r s : Room) (n : ℕ) (rest : List ℕ) (parcels : ℕ) → Grows r s → IsOnItsWay r n rest parcels → IsOnItsWay s n rest parcels
 way-grows r s n rest parcels g h =
     let m = called-more r s n g in
@@ -147,6 +153,8 @@ way-grows r s n rest parcels g h =
       fewer = subst (λ (k : ℕ). parcels ≤ k) (sym (g.taken n)) h.fewer;
       later = h.later;
       whole = h.whole ∙ ap (λ (z : List ℕ). z ++ h.later) (sym (ack-same r s n parcels g h.within));
+      few = h.few;
+      below = subst (λ (z : List ℕ). length rest < 65536 + length z) (sym (last-same r s n g h.within)) h.below;
     }
 
 pub written-grows : (r s : Room) (n : ℕ) (rest : List ℕ) (parcels : ℕ) → Grows r s → IsOnItsWay r n rest parcels → written s n rest ≡ written r n rest
@@ -443,6 +451,8 @@ joined old new c number j rooms keeps own l = (serving, took)
       fewer = omega arith;
       later = [];
       whole = ap (λ (k : ℕ). bytes_of (take (k - 0) (called_for j.room j.connection.n)) ++ []) (sym j.untaken);
+      few = omega arith;
+      below = omega arith;
     }
 
     attends : (k : ℕ) (y : Connection) → connection_at new.hub.connections k ≡ Some y → (((nat_eq number k ≡ true) × (number ≡ k)) ⊎ ((nat_eq number k ≡ false) × (number ≢ k))) → Attends new k y

@@ -1,13 +1,13 @@
 -- A parcel that is taken from the hub goes behind the rest, and what the socket takes is its front.
-use Rattle.std.proofs.Common.{◌≡◌, ◌≢◌, ◌⊎◌, inl, inr, ℕ, zero, suc, ◌+◌, ◌-◌, ◌≤◌, Bool, true, false, List, [], ◌∷◌, ◌++◌, length, take, drop, map, refl, sym, ◌∙◌, ap, subst, arith, append_assoc, append-nil, Some, None}
-use Rattle.std.specs.Prelude.{Option, Result, Ok, IsSome, ◌&&◌, ◌||◌, not, nat_eq, slice_get, slice_set, MatchOption}
+use Rattle.std.proofs.Common.{◌≡◌, ◌≢◌, ◌⊎◌, inl, inr, ℕ, zero, suc, ◌+◌, ◌-◌, ◌≤◌, ◌<◌, Bool, true, false, List, [], ◌∷◌, ◌++◌, length, take, drop, map, refl, sym, ◌∙◌, ap, subst, arith, append_assoc, append-nil, length-append, Some, None}
+use Rattle.std.specs.Prelude.{Option, Result, Ok, IsSome, ◌&&◌, ◌||◌, not, if◌then◌else◌, nat_eq, slice_get, slice_set, MatchOption}
 use Rattle.std.specs.Option.{option_map_or}
 use Rattle.std.proofs.lemmas.Bool.Decides.{eqb_tells}
 use Rattle.std.proofs.lemmas.Option.{none-some}
 use Rattle.floor_config.specs.Configuration.{Configuration}
 use Rattle.floor_machine.specs.declared.event.Event.{Event}
 use Rattle.std.specs.List.{concat}
-use Rattle.std.proofs.lemmas.List.{take-append-drop}
+use Rattle.std.proofs.lemmas.List.{length-drop, take-append-drop}
 use Rattle.floor_machine.specs.Conference.{opening, is_cut as machine_is_cut}
 use Rattle.floor_room.specs.Ledger.{Ledger, conference_of}
 use Rattle.floor_machine.specs.Journal.{parcel, told_from}
@@ -19,14 +19,14 @@ use Rattle.floor_room.specs.Replay.{bytes_of}
 use Rattle.floor_room.specs.Room.{AreSent, IsRoom, IsSent, Room, parcels_to, is_kept}
 use Rattle.floor_room.specs.Taking.{Gave, GivesFrom, GivesHeld, GivesIf, after_take, outbox_of, with_outbox}
 use Rattle.floor_hub.specs.declared.connection.Connection.{Connection}
-use Rattle.floor_hub.specs.Concerned.{IsLeftAlone}
+use Rattle.floor_hub.specs.Concerned.{IsLeftAlone, handed, waiting}
 use Rattle.floor_hub.specs.Connections.{connection_at}
 use Rattle.floor_hub.specs.Hub.{Hub, room_at}
-use Rattle.floor_hub.specs.Rooms.{TakenEach, TookEach, bytes_in, taken_of}
+use Rattle.floor_hub.specs.Rooms.{BegunBelow, TakenEach, TookEach, bytes_in, handed_in, taken_of}
 use Rattle.floor_hub.specs.StandsFor.{ArrivalStands, NumberStands, StandsFor, live_at}
 use Rattle.floor_hub.specs.World.{Arrival, Place, World, place}
 use Rattle.floor_loop.specs.Loop.{Loop, Outgoing, outgoing_at, parcels_at, rest_at, until_of}
-use Rattle.floor_loop.specs.Written.{Attends, Follow, IsOnItsWay, IsOver, IsServing, IsTimed, Took, TookNothing, acknowledged, acknowledged_by, called_for, taken_bytes, written}
+use Rattle.floor_loop.specs.Written.{Attends, Follow, IsOnItsWay, IsOver, IsServing, IsTimed, Took, TookNothing, acknowledged, acknowledged_by, called_for, last_bytes, taken_bytes, written}
 use Rattle.floor_loop.specs.steps.Moved.{IsLoop}
 use Rattle.floor_loop.specs.steps.Changed.{left_of}
 use Rattle.floor_loop.proofs.Moving.{way-of}
@@ -143,7 +143,9 @@ way-same : (r s : Room) (n : ℕ) (rest : List ℕ) (parcels : ℕ) → s.ledger
     IsOnItsWay s n rest parcels × (written s n rest ≡ written r n rest) × (acknowledged s n parcels ≡ acknowledged r n parcels)
 way-same r s n rest parcels config journal taken h =
     let t = same-taken r s n config journal taken in
-    let acknowledged_same : acknowledged s n parcels ≡ acknowledged r n parcels = ap (λ (k : ℕ). k - parcels) taken in (
+    let acknowledged_same : acknowledged s n parcels ≡ acknowledged r n parcels = ap (λ (k : ℕ). k - parcels) taken in
+    let last : last_bytes s n ≡ last_bytes r n =
+    ap (λ (k : ℕ). bytes_of (drop (k - 1) (take k (called_for s n)))) taken ∙ ap (λ (z : List Parcel). bytes_of (drop (taken_of r n - 1) (take (taken_of r n) z))) t.0 in (
       record {
         within = subst (λ (k : ℕ). k ≤ length (called_for s n)) (sym taken) (subst (λ (z : List Parcel). taken_of r n ≤ length z) (sym t.0) h.within);
         sent = h.sent;
@@ -153,6 +155,8 @@ way-same r s n rest parcels config journal taken h =
         whole =
             h.whole ∙ ap (λ (z : List Parcel). bytes_of (take (acknowledged r n parcels) z) ++ h.later) (sym t.0)
             ∙ ap (λ (k : ℕ). bytes_of (take k (called_for s n)) ++ h.later) (sym acknowledged_same);
+        few = h.few;
+        below = subst (λ (z : List ℕ). length rest < 65536 + length z) (sym last) h.below;
       },
       ap (λ (z : List ℕ). before z rest) t.1,
       acknowledged_same,
@@ -163,17 +167,22 @@ abbrev pub count_in : Option Parcel → ℕ
 count_in None = 0
 count_in (Some p) = 1
 
+-- where one more is taken fewer than 64 parcels are on their way, and less than 64 KiB
+abbrev pub MayTake : List ℕ → ℕ → Option Parcel → Type 0
+MayTake rest parcels None = Unit {0}
+MayTake rest parcels (Some p) = (parcels < 64) × (length rest < 65536)
+
 -- a parcel was taken for n from this room, if one waited, and put behind the rest
-pub way-taken : (r s : Room) (n : ℕ) (rest : List ℕ) (parcels : ℕ) (parcel : Option Parcel) → s.ledger.config ≡ r.ledger.config → s.ledger.journal ≡ r.ledger.journal → GivesIf (is_kept r) r.outboxes s.outboxes n (Ok parcel) → IsRoom r → IsOnItsWay r n rest parcels →
+pub way-taken : (r s : Room) (n : ℕ) (rest : List ℕ) (parcels : ℕ) (parcel : Option Parcel) → s.ledger.config ≡ r.ledger.config → s.ledger.journal ≡ r.ledger.journal → GivesIf (is_kept r) r.outboxes s.outboxes n (Ok parcel) → IsRoom r → MayTake rest parcels parcel → IsOnItsWay r n rest parcels →
     IsOnItsWay s n (rest ++ bytes_in parcel) (parcels + count_in parcel) × (written s n (rest ++ bytes_in parcel) ≡ written r n rest) × (acknowledged s n (parcels + count_in parcel) ≡ acknowledged r n parcels)
-way-taken r s n rest parcels None config journal gave kept h =
+way-taken r s n rest parcels None config journal gave kept may h =
     let same : s.outboxes ≡ r.outboxes = gave-none (is_kept r) r.outboxes s.outboxes n gave in
     let taken : taken_of s n ≡ taken_of r n = ap (λ (os : List Outbox). option_map_or (λ o. o.taken) (outbox_of os n) 0) same in
     let t = way-same r s n rest parcels config journal taken h in
     let count : parcels ≡ parcels + 0 = omega arith in
     subst (λ (k : ℕ). IsOnItsWay s n (rest ++ []) k × (written s n (rest ++ []) ≡ written r n rest) × (acknowledged s n k ≡ acknowledged r n parcels)) count
     (subst (λ (z : List ℕ). IsOnItsWay s n z parcels × (written s n z ≡ written r n rest) × (acknowledged s n parcels ≡ acknowledged r n parcels)) (sym (append-nil rest)) t)
-way-taken r s n rest parcels (Some p) config journal gave kept h =
+way-taken r s n rest parcels (Some p) config journal gave kept may h =
     let g = gave-some (is_kept r) r.outboxes s.outboxes n p gave in
     let sent = sent-of r n g.0 kept g.2 in
     let was : taken_of r n ≡ g.0.taken = ap (λ (z : Option Outbox). option_map_or (λ o. o.taken) z 0) g.2 in
@@ -187,7 +196,11 @@ way-taken r s n rest parcels (Some p) config journal gave kept h =
     ap (λ (k : ℕ). bytes_of (take k (called_for s n))) now ∙ ap (λ (z : List Parcel). bytes_of (take (taken_of r n + 1) z)) called ∙ next.0 in
     let t = grown (taken_bytes r n) (taken_bytes s n) h.sent rest p.bytes h.all all in
     let fewer : parcels ≤ taken_of r n = h.fewer in
-    let behind : acknowledged s n (parcels + 1) ≡ acknowledged r n parcels = omega (arith, now) in (
+    let behind : acknowledged s n (parcels + 1) ≡ acknowledged r n parcels = omega (arith, now) in
+    let one : taken_of s n - 1 ≡ taken_of r n = omega (arith, now) in
+    let last : last_bytes s n ≡ p.bytes =
+    ap (λ (k : ℕ). bytes_of (drop k (take (taken_of s n) (called_for s n)))) one ∙ ap (λ (k : ℕ). bytes_of (drop (taken_of r n) (take k (called_for s n)))) now
+    ∙ ap (λ (z : List Parcel). bytes_of (drop (taken_of r n) (take (taken_of r n + 1) z))) called ∙ next.2 in (
       record {
         within = subst (λ (k : ℕ). k ≤ length (called_for s n)) (sym now) (subst (λ (z : List Parcel). taken_of r n + 1 ≤ length z) (sym called) next.1);
         sent = h.sent;
@@ -197,24 +210,50 @@ way-taken r s n rest parcels (Some p) config journal gave kept h =
         whole =
             h.whole ∙ ap (λ (z : List Parcel). bytes_of (take (acknowledged r n parcels) z) ++ h.later) (sym called)
             ∙ ap (λ (k : ℕ). bytes_of (take k (called_for s n)) ++ h.later) (sym behind);
+        few = omega (arith, may.0);
+        below = subst (λ (z : List ℕ). length (rest ++ p.bytes) < 65536 + length z) (sym last) (omega (arith, length-append rest p.bytes, may.1));
       },
       t.1,
       behind,
     )
 
+-- something is handed out only where all that was told is kept
+gave-kept : (b : Bool) (os ps : List Outbox) (n : ℕ) (p : Parcel) → GivesIf b os ps n (Ok (Some p)) → b ≡ true
+gave-kept true os ps n p h = refl
+gave-kept false os ps n p h = absurd (none (outbox_of os n) h.0)
+  where
+    none : (z : Option Outbox) → MatchOption z (false ≡ true) (λ o. ◌≡◌ {A = Result (Option Parcel) NoMember} (Ok (Some p)) (Ok None)) → ⊥
+    none None g = cc
+    none (Some o) g = cc
+
+-- what is handed out first was given, and the rest is handed out
+handed-next : (r s : Room) (n : ℕ) (p : Parcel) → Gave r s n (Ok (Some p)) → handed r n ≡ p ∷ handed s n
+handed-next r s n p g =
+    let t = gave-some (is_kept r) r.outboxes s.outboxes n p g.given in
+    let kept : is_kept r ≡ true = gave-kept (is_kept r) r.outboxes s.outboxes n p g.given in
+    let still : is_kept s ≡ true = ap is_kept g.same ∙ kept in
+    let there : outbox_of s.outboxes n ≡ Some (after_take t.0 t.1) = ap (λ (os : List Outbox). outbox_of os n) t.4 ∙ outbox-here r.outboxes n (after_take t.0 t.1) t.0 t.2 in
+    ap (λ (b : Bool). if b then waiting r n else []) kept ∙ ap (λ (z : Option Outbox). option_map_or (λ o. o.held) z []) t.2 ∙ t.3
+    ∙ ap (λ (z : Option Outbox). p ∷ option_map_or (λ o. o.held) z []) (sym there) ∙ ap (λ (b : Bool). p ∷ (if b then waiting s n else [])) (sym still)
+
 -- parcels were taken for n from this room, one after another, and put behind the rest
-pub way-each : (r s : Room) (n : ℕ) (rest : List ℕ) (parcels : ℕ) (ps : List Parcel) → TookEach r s n ps → IsOnItsWay r n rest parcels →
+pub way-each : (r s : Room) (n : ℕ) (rest : List ℕ) (parcels : ℕ) (ps : List Parcel) → TookEach r s n ps → BegunBelow 65536 (length ps) rest (handed r n) → parcels + length ps ≤ 64 → IsOnItsWay r n rest parcels →
     IsOnItsWay s n (rest ++ bytes_of ps) (parcels + length ps) × (written s n (rest ++ bytes_of ps) ≡ written r n rest) × (acknowledged s n (parcels + length ps) ≡ acknowledged r n parcels)
-way-each r s n rest parcels [] e h =
+way-each r s n rest parcels [] e begun few h =
     let count : parcels ≡ parcels + 0 = omega arith in
     subst (λ (z : Room). IsOnItsWay z n (rest ++ []) (parcels + 0) × (written z n (rest ++ []) ≡ written r n rest) × (acknowledged z n (parcels + 0) ≡ acknowledged r n parcels)) (sym e)
     (subst (λ (k : ℕ). IsOnItsWay r n (rest ++ []) k × (written r n (rest ++ []) ≡ written r n rest) × (acknowledged r n k ≡ acknowledged r n parcels)) count
     (subst (λ (z : List ℕ). IsOnItsWay r n z parcels × (written r n z ≡ written r n rest) × (acknowledged r n parcels ≡ acknowledged r n parcels)) (sym (append-nil rest)) (h, refl, refl)))
-way-each r s n rest parcels (p ∷ ps) h way =
+way-each r s n rest parcels (p ∷ ps) h begun few way =
     let mid : Room = h.0 in
     let ledger : mid.ledger ≡ r.ledger = ap (λ (z : Room). z.ledger) h.2.same in
-    let t = way-taken r mid n rest parcels (Some p) (ap (λ (z : Ledger). z.config) ledger) (ap (λ (z : Ledger). z.journal) ledger) h.2.given h.1 way in
-    let u = way-each mid s n (rest ++ p.bytes) (parcels + 1) ps h.3 t.0 in
+    let first : length rest < 65536 = subst (λ (z : List ℕ). length z < 65536) (append-nil rest) (begun 0 (omega arith)) in
+    let t = way-taken r mid n rest parcels (Some p) (ap (λ (z : Ledger). z.config) ledger) (ap (λ (z : Ledger). z.journal) ledger) h.2.given h.1 (omega (arith, few), first) way in
+    let front : handed r n ≡ p ∷ handed mid n = handed-next r mid n p h.2 in
+    let later : BegunBelow 65536 (length ps) (rest ++ p.bytes) (handed mid n) =
+    λ k less. subst (λ (z : List ℕ). length z < 65536) (sym (append_assoc rest p.bytes (bytes_of (take k (handed mid n)))))
+    (subst (λ (z : List Parcel). length (rest ++ bytes_of (take (suc k) z)) < 65536) front (begun (suc k) (omega (arith, less)))) in
+    let u = way-each mid s n (rest ++ p.bytes) (parcels + 1) ps h.3 later (omega (arith, few)) t.0 in
     let count : parcels + 1 + length ps ≡ parcels + suc (length ps) = omega arith in
     let bytes : (rest ++ p.bytes) ++ bytes_of ps ≡ rest ++ (p.bytes ++ bytes_of ps) = append_assoc rest p.bytes (bytes_of ps) in (
       subst (λ (k : ℕ). IsOnItsWay s n (rest ++ (p.bytes ++ bytes_of ps)) k) count (subst (λ (z : List ℕ). IsOnItsWay s n z (parcels + 1 + length ps)) bytes u.0),
@@ -264,6 +303,8 @@ way-written r n rest parcels count h = by (drop count rest) refl
             fewer = omega arith;
             later = [];
             whole = sym all ∙ sym (append-nil (taken_bytes r n)) ∙ ap (λ (k : ℕ). bytes_of (take k (called_for r n)) ++ []) zero_less;
+            few = omega arith;
+            below = omega arith;
           },
           ap (λ (z : List ℕ). before (taken_bytes r n) z) (sym e) ∙ t.1,
           omega (arith, fewer),
@@ -276,6 +317,8 @@ way-written r n rest parcels count h = by (drop count rest) refl
         fewer = h.fewer;
         later = h.later ++ take count rest;
         whole = ap (λ (z : List ℕ). z ++ take count rest) h.whole ∙ append_assoc (bytes_of (take (acknowledged r n parcels) (called_for r n))) h.later (take count rest);
+        few = h.few;
+        below = omega (arith, h.below, length-drop count rest, ap length e);
       },
       ap (λ (z : List ℕ). before (taken_bytes r n) z) (sym e) ∙ t.1,
       omega arith,
@@ -308,6 +351,7 @@ beside-waits r s n m parcel ne g =
 abbrev pub TakesEach : Loop → Loop → ℕ → Type 0
 TakesEach old new number =
     (x : Connection) (o : Outgoing) (ps : List Parcel) → connection_at old.hub.connections number ≡ Some x → outgoing_at old number ≡ Some o → TakenEach x.conference x.n ps old.hub new.hub →
+    BegunBelow 65536 (length ps) o.rest (handed_in (room_at old.hub x.conference) x.n) → (o.parcels ≤ 64 → o.parcels + length ps ≤ 64) →
     ((p : Outgoing) × (outgoing_at new number ≡ Some p) × (p.rest ≡ o.rest ++ bytes_of ps) × (p.parcels ≡ o.parcels + length ps) × (p.conference ≡ o.conference) × (until_of p ≡ until_of o)) →
     ((k : ℕ) → nat_eq number k ≡ false → outgoing_at new k ≡ outgoing_at old k) → ((w : World) → StandsFor old.hub w → StandsFor new.hub w) → IsLoop old →
     IsServing new × IsTimed new × TookNothing old new
@@ -326,14 +370,15 @@ record IsAfter (old new : Loop) (k : ℕ) (y : Connection) (r : Room) (q : Outgo
   ledger : s.ledger ≡ r.ledger
 
 pub takes-each : (old new : Loop) (number : ℕ) → TakesEach old new number
-takes-each old new number x o ps is_x is_o f out others stands l = (serving, timed, took)
+takes-each old new number x o ps is_x is_o f begun few out others stands l = (serving, timed, took)
   where
     kept_ledger : f.after.ledger ≡ f.before.ledger
     kept_ledger = each-ledger f.before f.after x.n ps f.took
 
     own : IsOnItsWay f.before x.n o.rest o.parcels → IsAfter old new number x f.before o
     own way =
-        let t = way-each f.before f.after x.n o.rest o.parcels ps f.took way in
+        let below = subst (λ (y : Option Room). BegunBelow 65536 (length ps) o.rest (handed_in y x.n)) f.was begun in
+        let t = way-each f.before f.after x.n o.rest o.parcels ps f.took below (few way.few) way in
         record {
           s = f.after;
           p = out.0;

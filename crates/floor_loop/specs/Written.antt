@@ -1,5 +1,5 @@
 -- What the socket of a connection took, and what is still on its way: together they are what was taken from its conference's room.
-use Rattle.std.specs.Prelude.{◌≡◌, ◌⊎◌, ◌≤◌, ◌+◌, ◌-◌, ◌++◌, ◌∷◌, ℕ, List, [], length, take, true, is_some, Some, None, IsSome}
+use Rattle.std.specs.Prelude.{◌≡◌, ◌⊎◌, ◌≤◌, ◌<◌, ◌+◌, ◌-◌, ◌++◌, ◌∷◌, ℕ, List, [], length, take, drop, true, is_some, Some, None, IsSome}
 use Rattle.floor_machine.specs.declared.event.Event.TheVariants as Event
 use Rattle.floor_machine.specs.Journal.{Q}
 use Rattle.floor_machine.specs.Parcel.{Parcel}
@@ -29,8 +29,12 @@ written r n rest = take (length (taken_bytes r n) - length rest) (taken_bytes r 
 abbrev pub acknowledged : Room → ℕ → ℕ → ℕ
 acknowledged r n parcels = taken_of r n - parcels
 
+-- the bytes of the last parcel that was taken, and none before the first
+abbrev pub last_bytes : Room → ℕ → List ℕ
+last_bytes r n = bytes_of (drop (taken_of r n - 1) (take (taken_of r n) (called_for r n)))
+
 -- No more parcels were taken from the room than its journal calls for, the rest is the end of their bytes, and of those that were acknowledged all
--- bytes were written.
+-- bytes were written. At most 64 parcels are on their way, and without the last of them less than 64 KiB.
 pub record IsOnItsWay (r : Room) (n : ℕ) (rest : List ℕ) (parcels : ℕ) : Type 0 where
   pub within : taken_of r n ≤ length (called_for r n)
   pub sent : List ℕ
@@ -38,6 +42,8 @@ pub record IsOnItsWay (r : Room) (n : ℕ) (rest : List ℕ) (parcels : ℕ) : T
   pub fewer : parcels ≤ taken_of r n
   pub later : List ℕ
   pub whole : sent ≡ bytes_of (take (acknowledged r n parcels) (called_for r n)) ++ later
+  pub few : parcels ≤ 64
+  pub below : length rest < 65536 + length (last_bytes r n)
 
 -- a live connection has a room, and what is on its way to it is the end of what was taken there
 pub record Attends (l : Loop) (number : ℕ) (x : Connection) : Type 0 where

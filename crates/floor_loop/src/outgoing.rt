@@ -2,7 +2,7 @@
 
 ghost use Rattle.std.specs.Prelude.{◌≡◌, ◌⊎◌, ◌≤◌, ◌+◌, [], IfOk, MatchResult, None, drop, false, is_none, length};
 ghost use Rattle.floor_hub.specs.Connections.{connection_at};
-ghost use Rattle.floor_hub.specs.Rooms.{TakenAll, first_at};
+ghost use Rattle.floor_hub.specs.Rooms.{BegunBelow, TakenAll, first_at, handed_at};
 ghost use Rattle.floor_hub.specs.StandsFor.{StandsFor};
 ghost use Rattle.floor_hub.specs.World.{World};
 ghost use Rattle.floor_loop.specs.Loop.{IsFull, until_of};
@@ -183,6 +183,9 @@ impl Outgoing {
         ensures parcels { MatchResult result
             (λ taken. self.new.parcels ≡ self.old.parcels + taken.count)
             (λ _. self.new.parcels ≡ self.old.parcels) }
+        ensures few { self.old.parcels ≤ 64 → self.new.parcels ≤ 64 }
+        ensures begun { IfOk result (λ taken. BegunBelow 65536 taken.count self.old.rest
+            (handed_at hub.old (connection_at hub.old.connections number))) }
         ensures same { self.new ≡ record self.old {
           rest = self.new.rest;
           parcels = self.new.parcels;

@@ -25,7 +25,7 @@ returns-in-Some c =
         parcels = p.parcels;
         next = next;
         took = λ q is. subst (λ (z : Outgoing). Asked number z p.rest p.parcels c.args.hub.now c.take_all.new.hub) (some-out o q (sym found ∙ is))
-            (record { result = c.take_all.result; given = c.take_all.ensures.given; count = c.take_all.ensures.parcels });
+            (record { result = c.take_all.result; given = c.take_all.ensures.given; count = c.take_all.ensures.parcels; few = c.take_all.ensures.few; begun = c.take_all.ensures.begun });
         none = λ is. absurd (none-some o (sym is ∙ found));
         gathered = c.take_all.ensures.gathered;
       };
