@@ -18,7 +18,7 @@ use Rattle.floor_meetings.specs.declared.meetings.Meetings.{Meetings}
 use Rattle.floor_meetings.specs.declared.members.Member.{Member}
 use Rattle.floor_meetings.specs.declared.refusal.JoinRefusal.{JoinRefusal}
 use Rattle.floor_meetings.specs.declared.refusal.JoinRefusal.TheVariants.{InUse, UserConnections, Connections, Memory, ByHub}
-use Rattle.floor_meetings.specs.Calls.{Comes, Drops, Ends, Fails, Leaves, Parts, Quiet, Takes}
+use Rattle.floor_meetings.specs.Calls.{Comes, Drops, Ends, Fails, Leaves, Parts, Quiet, Still, Takes}
 use Rattle.floor_meetings.specs.Joined.{LeftBy}
 use Rattle.floor_meetings.specs.Laws.{TakenIsCalledFor}
 use Rattle.floor_meetings.specs.Meetings.{lent_at, member_at}
@@ -26,7 +26,7 @@ use Rattle.floor_meetings.specs.Members.{Members, slot_of}
 use Rattle.floor_meetings.specs.Runs.{Call, Does, Frees, IsLiving, Lives, Open, Forget, Acts, Says, Keep, MakeRoom, Join, Refused, Came, Ended, Failed, Left, Took, Ready, Due, Discard, LeaveAway, bytes_by, taken_by}
 use Rattle.floor_meetings.specs.steps.Lived.{Led}
 use Rattle.floor_meetings.proofs.Pairing.{Tells, one_slot}
-use Rattle.floor_meetings.proofs.Running.{led-both, led-same, led-timed, one-call, run-append}
+use Rattle.floor_meetings.proofs.Running.{led-both, led-same, led-timed, one-call, one-still, run-append}
 
 -- two slots that differ have members with numbers that differ
 apart : (ms : Members) (slot k number other : ℕ) → slot_of ms number ≡ Some slot → slot_of ms other ≡ Some k → nat_eq k slot ≡ false → nat_eq other number ≡ false
@@ -53,6 +53,9 @@ module _ (slot : ℕ) (member : Member) (old new : Meetings) (was : IsLiving slo
 
   quiet : (Are : List Step → Type 0) → Quiet Are old.hub new.hub → Led member.number old.hub new.hub []
   quiet Are q = one-call member.number Are old.hub new.hub [] 0 q.steps (q.took member.number) is.live is.serving
+
+  still : Still old.hub new.hub → Led member.number old.hub new.hub []
+  still q = one-still member.number old.hub new.hub q.stands (q.took member.number) is.live is.serving
 
   comes : (bytes : List ℕ) (result : Result Bool HubRefusal) (o : Option Member) → MatchOption o (new.hub ≡ old.hub) (λ m. Comes m.number bytes old.hub new.hub result) → Led member.number old.hub new.hub []
   comes bytes result None e = led-same member.number old.hub new.hub e
@@ -124,10 +127,10 @@ module _ (slot : ℕ) (member : Member) (old new : Meetings) (was : IsLiving slo
   -- one call
   pub led : (c : Call) → Does c old new → Led member.number old.hub new.hub (taken_by slot c)
   led (Open config) d = quiet (AtMost 1 (step.Open config)) d.1
-  led Forget d = quiet NoSteps d.1
+  led Forget d = still d.1
   led (Acts conference act) d = quiet (AtMost 1 (step.Admin conference act)) d.1
   led (Says conference user bytes) d = quiet (AtMost 1 (step.Say conference user bytes)) d.1
-  led Keep d = quiet NoSteps d.1
+  led Keep d = still d.1
   led (MakeRoom gone) d = quiet (LeavesIf gone) d.1
   led (Join k conference user) d = quiet (Returns conference user new.hub.attended.away.back) d.quiet
   led (Refused conference user r) d = refused conference user r d.1

@@ -14,7 +14,7 @@ use Rattle.floor_hub.specs.Hub.{Hub, room_at}
 use Rattle.floor_hub.specs.Runs.{run}
 use Rattle.floor_hub.specs.StandsFor.{NumberStands, StandsFor}
 use Rattle.floor_hub.specs.World.{Aim, Place, World, aimed, nothing, offer, place, places_after, turn, turn_at}
-use Rattle.floor_loop.specs.Done.{AtMost, Each, LeavesIf, NoSteps, Reads, Returns, Steps}
+use Rattle.floor_loop.specs.Done.{AtMost, Each, LeavesIf, NoSteps, Reads, Returns, StandsStill, Steps}
 use Rattle.floor_loop.specs.Loop.{Loop, parcels_at}
 use Rattle.floor_meetings.specs.declared.meetings.Meetings.{Meetings}
 use Rattle.floor_meetings.specs.declared.members.Member.{Member}
@@ -70,6 +70,9 @@ went-by Are old new steps w stands =
     let g = steps w stands in
     record { world = run w g.steps; stands = g.stands; more = grows w g.steps }
 
+went-still : (old new : Loop) → StandsStill old.hub new.hub → Went old new
+went-still old new still w stands = record { world = w; stands = still w stands; more = same-length w.places }
+
 went-same : (old new : Loop) → new.hub ≡ old.hub → Went old new
 went-same old new is w stands = record { world = w; stands = subst (λ (h : Hub). StandsFor h w) (sym is) stands; more = same-length w.places }
 
@@ -116,10 +119,10 @@ module _ (old new : Loop) where
 -- each call
 went : (c : Call) (old new : Meetings) → Does c old new → Went old.hub new.hub
 went (Open config) old new d = went-by (AtMost 1 (step.Open config)) old.hub new.hub d.1.steps
-went Forget old new d = went-by NoSteps old.hub new.hub d.1.steps
+went Forget old new d = went-still old.hub new.hub d.1.stands
 went (Acts conference act) old new d = went-by (AtMost 1 (step.Admin conference act)) old.hub new.hub d.1.steps
 went (Says conference user bytes) old new d = went-by (AtMost 1 (step.Say conference user bytes)) old.hub new.hub d.1.steps
-went Keep old new d = went-by NoSteps old.hub new.hub d.1.steps
+went Keep old new d = went-still old.hub new.hub d.1.stands
 went (MakeRoom who) old new d = went-by (LeavesIf who) old.hub new.hub d.1.steps
 went (Join k conference user) old new d = went-by (Returns conference user new.hub.attended.away.back) old.hub new.hub d.quiet.steps
 went (Refused conference user r) old new d = refused conference user r old.hub new.hub d.1

@@ -9,11 +9,11 @@ use Rattle.floor_hub.specs.Hub.{Hub, room_at}
 use Rattle.floor_hub.specs.Runs.{run}
 use Rattle.floor_hub.specs.StandsFor.{StandsFor}
 use Rattle.floor_hub.specs.World.{World, turn}
-use Rattle.floor_loop.specs.Done.{Steps}
+use Rattle.floor_loop.specs.Done.{StandsStill, Steps}
 use Rattle.floor_loop.specs.Laws.{Call, Calls, IsLive, bytes_by, steps_of}
 use Rattle.floor_loop.specs.Loop.{Attended, Loop, Outgoing}
 use Rattle.floor_loop.specs.Written.{IsServing, Took, acknowledged, written}
-use Rattle.floor_meetings.specs.steps.Lived.{Led}
+use Rattle.floor_meetings.specs.steps.Lived.{Goes, Led}
 
 pub run-append : (w : World) (ss ts : List Step) → run w (ss ++ ts) ≡ run (run w ss) ts
 run-append w [] ts = refl
@@ -22,20 +22,30 @@ run-append w (s ∷ ss) ts = run-append (turn w s).world ss ts
 same : (number : ℕ) → nat_eq number number ≡ true
 same number = elim (eqb_tells number number) [ inl t ↦ t.0 | inr t ↦ absurd (t.1 refl) ]
 
-module _ (number : ℕ) (Are : List Step → Type 0) (old new : Loop) (bytes : List ℕ) (parcels : ℕ) where
-  -- one call, of which the clauses say this
-  pub one-call : Steps Are old.hub new.hub → Took old new number bytes parcels → IsLive new number → IsServing new → Led number old new bytes
-  one-call steps took live serving w stands =
-      let g = steps w stands in
-      let call : Call = record { steps = g.steps; number = number; bytes = bytes; parcels = parcels } in
+module _ (number : ℕ) (old new : Loop) (bytes : List ℕ) (parcels : ℕ) where
+  -- these steps were one call, of which the clauses say this
+  one : (w : World) (steps : List Step) → StandsFor new.hub (run w steps) → Took old new number bytes parcels → IsLive new number → IsServing new → Goes number old new bytes w
+  one w steps stands took live serving =
+      let call : Call = record { steps = steps; number = number; bytes = bytes; parcels = parcels } in
       let did : Took old new number (cond (nat_eq number number) bytes []) (cond (nat_eq number number) parcels 0) =
       subst (λ (b : Bool). Took old new number (cond b bytes []) (cond b parcels 0)) (sym (same number)) took in
       record {
         calls = call ∷ [];
-        are = (new, record { stands = g.stands; took = did; serving = serving }, live, refl);
-        stands = subst (λ (ss : List Step). StandsFor new.hub (run w ss)) (sym (append-nil g.steps)) g.stands;
+        are = (new, record { stands = stands; took = did; serving = serving }, live, refl);
+        stands = subst (λ (ss : List Step). StandsFor new.hub (run w ss)) (sym (append-nil steps)) stands;
         taken = append-nil (cond (nat_eq number number) bytes []) ∙ ap (λ (b : Bool). cond b bytes []) (same number);
       }
+
+-- one call of some steps
+pub one-call : (number : ℕ) (Are : List Step → Type 0) (old new : Loop) (bytes : List ℕ) (parcels : ℕ) → Steps Are old.hub new.hub → Took old new number bytes parcels → IsLive new number → IsServing new →
+    Led number old new bytes
+one-call number Are old new bytes parcels steps took live serving w stands =
+    let g = steps w stands in
+    one number old new bytes parcels w g.steps g.stands took live serving
+
+-- one call of none
+pub one-still : (number : ℕ) (old new : Loop) → StandsStill old.hub new.hub → Took old new number [] 0 → IsLive new number → IsServing new → Led number old new []
+one-still number old new still took live serving w stands = one number old new [] 0 w [] (still w stands) took live serving
 
 steps-both : (cs ds : List Call) → steps_of (cs ++ ds) ≡ steps_of cs ++ steps_of ds
 steps-both [] ds = refl
@@ -90,11 +100,8 @@ took-timed l time number x y r s o p is_x is_y is_r is_s is_o is_p =
       ap (λ (k : ℕ). acknowledged s k p.parcels) n ∙ ap (λ (z : Room). acknowledged z x.n p.parcels) s_is ∙ ap (λ (z : Outgoing). acknowledged r x.n z.parcels) p_is ∙ omega arith,
     )
 
-no-steps : (h : Hub) → Steps (λ steps. steps ≡ []) h h
-no-steps h w stands = record { steps = []; are = refl; stands = stands }
-
 -- nothing but the time went on
 pub led-timed : (number time : ℕ) (old new : Loop) → new.hub ≡ old.hub → new.attended ≡ record old.attended { time = time } → IsLive new number → IsServing new → Led number old new []
 led-timed number time old new hub attended live serving =
     let is : new ≡ timed old time = ap (λ (h : Hub). record { hub = h; attended = new.attended }) hub ∙ ap (λ (a : Attended). record { hub = old.hub; attended = a }) attended in
-    one-call number (λ steps. steps ≡ []) old new [] 0 (subst (λ (h : Hub). Steps (λ steps. steps ≡ []) old.hub h) (sym hub) (no-steps old.hub)) (subst (λ (l : Loop). Took old l number [] 0) (sym is) (took-timed old time number)) live serving
+    one-still number old new (λ w stands. subst (λ (h : Hub). StandsFor h w) (sym hub) stands) (subst (λ (l : Loop). Took old l number [] 0) (sym is) (took-timed old time number)) live serving

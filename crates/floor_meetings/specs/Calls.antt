@@ -9,7 +9,7 @@ use Rattle.floor_hub.specs.declared.step.Step.{Step}
 use Rattle.floor_hub.specs.declared.step.Step.TheVariants.{Leave, Serve}
 use Rattle.floor_hub.specs.declared.step.Step.TheVariants as step
 use Rattle.floor_loop.specs.Away.{stay_from}
-use Rattle.floor_loop.specs.Done.{AtMost, Each, Hands, NoSteps, Reads, Serves, Steps}
+use Rattle.floor_loop.specs.Done.{AtMost, Each, Hands, NoSteps, Reads, Serves, StandsStill, Steps}
 use Rattle.floor_loop.specs.Loop.{HasFailed, IsEnded, IsFilled, Loop, outgoing_at, parcels_at, rest_at, stay_at}
 use Rattle.floor_loop.specs.Returned.{MayNotStay}
 use Rattle.floor_loop.specs.Written.{Acknowledges, Dropped, IsOver, IsSparedOrOver, Spares, Took, TookNothing, Wakes, acknowledged_by}
@@ -17,6 +17,12 @@ use Rattle.floor_loop.specs.Written.{Acknowledges, Dropped, IsOver, IsSparedOrOv
 -- such steps of the hub were done, and no socket has taken anything
 pub record Quiet (Are : List Step → Type 0) (old new : Loop) : Type 0 where
   pub steps : Steps Are old.hub new.hub
+  pub took : TookNothing old new
+
+-- No step of the hub was done, and no socket has taken anything; how many events of a conference are kept may be another number now, or the conference
+-- may be forgotten.
+pub record Still (old new : Loop) : Type 0 where
+  pub stands : StandsStill old.hub new.hub
   pub took : TookNothing old new
 
 -- These bytes came from it, and 8 of its messages at most were served.

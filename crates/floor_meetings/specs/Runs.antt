@@ -10,7 +10,7 @@ use Rattle.floor_loop.specs.Written.{IsServing}
 use Rattle.floor_meetings.specs.declared.meetings.Meetings.{Meetings}
 use Rattle.floor_meetings.specs.declared.members.Member.{Member}
 use Rattle.floor_meetings.specs.declared.refusal.JoinRefusal.{JoinRefusal}
-use Rattle.floor_meetings.specs.Calls.{Comes, Drops, Ends, Fails, Leaves, Parts, Quiet, Takes}
+use Rattle.floor_meetings.specs.Calls.{Comes, Drops, Ends, Fails, Leaves, Parts, Quiet, Still, Takes}
 use Rattle.floor_meetings.specs.Joined.{Joins, LeftBy, SameSlots}
 use Rattle.floor_meetings.specs.Meetings.{lent_at, member_at}
 use Rattle.floor_meetings.specs.Members.{IsPaired, slot_of}
@@ -47,10 +47,10 @@ pub record Frees (slot : ℕ) (old new : Meetings) : Type 0 where
 -- what the contract of the call says
 abbrev pub Does : Call → Meetings → Meetings → Type 0
 Does (Open config) old new = Same old new × Quiet (AtMost 1 (step.Open config)) old.hub new.hub
-Does Forget old new = Same old new × Quiet NoSteps old.hub new.hub
+Does Forget old new = Same old new × Still old.hub new.hub
 Does (Acts conference act) old new = Same old new × Quiet (AtMost 1 (step.Admin conference act)) old.hub new.hub
 Does (Says conference user bytes) old new = Same old new × Quiet (AtMost 1 (step.Say conference user bytes)) old.hub new.hub
-Does Keep old new = Same old new × Quiet NoSteps old.hub new.hub
+Does Keep old new = Same old new × Still old.hub new.hub
 Does (MakeRoom gone) old new = Same old new × Quiet (LeavesIf gone) old.hub new.hub
 Does (Join slot conference user) old new = Joins slot conference user old new
 Does (Refused conference user r) old new = SameSlots old new × LeftBy r conference user old.hub new.hub

@@ -3,10 +3,9 @@
 ghost use Rattle.std.specs.Prelude.{◌≡◌, IfErr, None, OnErr, OnOk};
 ghost use Rattle.floor_hub.specs.Hub.{is_forgotten, room_at};
 ghost use Rattle.floor_hub.specs.Rooms.{KeepsIn, SameHub, all_so_far, all_to_come, forgotten_or_none, so_many};
-ghost use Rattle.floor_loop.specs.Done.{NoSteps};
 ghost use Rattle.floor_loop.specs.Loop.{AreHandedOut};
 ghost use Rattle.floor_loop.specs.Written.{Spares};
-ghost use Rattle.floor_meetings.specs.Calls.{Quiet};
+ghost use Rattle.floor_meetings.specs.Calls.{Still};
 
 use crate::meetings::Meetings;
 use floor_loop::HubRefusal;
@@ -21,7 +20,7 @@ impl Meetings {
         ensures refused { IfErr result (λ r. (room_at self.old.hub.hub conference ≡ None)
             × (r ≡ forgotten_or_none (is_forgotten self.old.hub.hub conference))) }
         ensures left { OnErr result (SameHub self.old.hub.hub self.new.hub.hub) }
-        ensures quiet { Quiet NoSteps self.old.hub self.new.hub }
+        ensures still { Still self.old.hub self.new.hub }
         ensures ready { AreHandedOut conference self.new.hub }
         ensures spares { Spares self.old.hub self.new.hub }
         ensures members { self.new.members ≡ self.old.members }
@@ -38,7 +37,7 @@ impl Meetings {
         ensures refused { IfErr result (λ r. (room_at self.old.hub.hub conference ≡ None)
             × (r ≡ forgotten_or_none (is_forgotten self.old.hub.hub conference))) }
         ensures left { OnErr result (SameHub self.old.hub.hub self.new.hub.hub) }
-        ensures quiet { Quiet NoSteps self.old.hub self.new.hub }
+        ensures still { Still self.old.hub self.new.hub }
         ensures ready { AreHandedOut conference self.new.hub }
         ensures spares { Spares self.old.hub self.new.hub }
         ensures members { self.new.members ≡ self.old.members }
@@ -54,7 +53,7 @@ impl Meetings {
         ensures refused { IfErr result (λ r. (room_at self.old.hub.hub conference ≡ None)
             × (r ≡ forgotten_or_none (is_forgotten self.old.hub.hub conference))) }
         ensures left { OnErr result (SameHub self.old.hub.hub self.new.hub.hub) }
-        ensures quiet { Quiet NoSteps self.old.hub self.new.hub }
+        ensures still { Still self.old.hub self.new.hub }
         ensures ready { AreHandedOut conference self.new.hub }
         ensures spares { Spares self.old.hub self.new.hub }
         ensures members { self.new.members ≡ self.old.members }

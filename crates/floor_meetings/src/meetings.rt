@@ -13,7 +13,7 @@ ghost use Rattle.floor_loop.specs.Done.{AtMost, LeavesIf, NoSteps};
 ghost use Rattle.floor_loop.specs.Loop.{IsFilled, outgoing_at, over_at, ready_at};
 ghost use Rattle.floor_loop.specs.Returned.{IsKeptPlace, IsOldestOf};
 ghost use Rattle.floor_loop.specs.Written.{IsOver, IsServing, Spares, Wakes};
-ghost use Rattle.floor_meetings.specs.Calls.{Comes, Drops, Ends, Fails, Leaves, Parts, Quiet, Takes};
+ghost use Rattle.floor_meetings.specs.Calls.{Comes, Drops, Ends, Fails, Leaves, Parts, Quiet, Still, Takes};
 ghost use Rattle.floor_meetings.specs.Joined.{HasPlaces, IsRefused, Joins, LeftBy, SameSlots, is_late};
 ghost use Rattle.floor_meetings.specs.Meetings.{AreCalledFor, due_as, lent_at, member_at, ready_as, shut_by};
 ghost use Rattle.floor_meetings.specs.Members.{IsPaired, slot_of};
@@ -112,7 +112,7 @@ impl Meetings {
 
     /// Gives the memory of a conference back that has ended and of which no connection is live, as the hub does.
     pub fn forget(&mut self, conference: u32) -> Result<(), HubRefusal>
-        ensures quiet { Quiet NoSteps self.old.hub self.new.hub }
+        ensures still { Still self.old.hub self.new.hub }
         ensures forgot { OnOk result (Forgets conference self.old.hub.hub self.new.hub.hub) }
         ensures refused { IfErr result (IsRemembered conference self.old.hub.hub) }
         ensures left { OnErr result (self.new.hub ≡ self.old.hub) }

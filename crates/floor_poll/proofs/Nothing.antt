@@ -11,7 +11,12 @@ use Rattle.floor_loop.specs.Written.{TookNothing, acknowledged, written}
 
 -- no step is at most one
 pub steps-none : (s : Step) (hub : Hub) → Steps (AtMost 1 s) hub hub
-steps-none s hub = λ w st. record { steps = []; are = (omega arith, tt); stands = st }
+steps-none s hub = λ w st. record {
+  steps = [];
+  are = (omega arith, tt);
+  stands = st;
+  remain = λ c r is. (r, is, record { kept = refl; config = refl; more = []; journal = sym (append-nil r.ledger.journal) });
+}
 
 some-connection : (x y : Connection) → ◌≡◌ {A = Option Connection} (Some x) (Some y) → x ≡ y
 some-connection x y e = cc

@@ -1,9 +1,10 @@
 -- What a part's call hands on.
-use Rattle.std.proofs.Common.{◌≡◌, ◌<◌, ℕ, false, true, List, [], refl, sym, ◌∙◌, ap, subst, arith}
+use Rattle.std.proofs.Common.{◌≡◌, ◌<◌, ℕ, false, true, List, [], refl, sym, ◌∙◌, ap, subst, arith, append-nil}
 use Rattle.std.specs.Prelude.{All, IfNone, IfOk, MatchOption, Option, Some, None, Ok, Err, Result}
+use Rattle.floor_hub.specs.Hub.{Hub}
 use Rattle.floor_hub.specs.declared.step.Step.{Step}
 use Rattle.floor_loop.proofs.Calling.{took-refl}
-use Rattle.floor_loop.specs.Done.{AtMost, NoSteps}
+use Rattle.floor_loop.specs.Done.{AtMost, NoSteps, RoomsRemain}
 use Rattle.floor_loop.specs.Loop.{Loop}
 use Rattle.floor_meetings.specs.Calls.{Quiet}
 use Rattle.floor_sockets.specs.declared.deadlines.Deadline.{Deadline}
@@ -33,17 +34,21 @@ rests_done old new done rests = record {
   nobody = λ slot l at. done.nobody slot l (sym (rests.lives slot) ∙ at);
 }
 
+-- rooms that are as they were remain
+remain_same : (hub : Hub) → RoomsRemain hub hub
+remain_same hub c r is = (r, is, record { kept = refl; config = refl; more = []; journal = sym (append-nil r.ledger.journal) })
+
 -- a loop of which nothing was asked has done a step at most
 pub quiet_none : (s : Step) (l : Loop) → Quiet (AtMost 1 s) l l
 quiet_none s l = record {
-  steps = λ w stands. record { steps = []; are = (omega arith, tt); stands = stands };
+  steps = λ w stands. record { steps = []; are = (omega arith, tt); stands = stands; remain = remain_same l.hub };
   took = took-refl l;
 }
 
 -- nor has one that is the same
 pub quiet_same : (old new : Loop) → new ≡ old → Quiet NoSteps old new
 quiet_same old new same = subst (λ (l : Loop). Quiet NoSteps old l) (sym same) (record {
-  steps = λ w stands. record { steps = []; are = refl; stands = stands };
+  steps = λ w stands. record { steps = []; are = refl; stands = stands; remain = remain_same old.hub };
   took = took-refl old;
 })
 

@@ -3,9 +3,9 @@
 ghost use Rattle.std.specs.Prelude.{◌≡◌, All, IfErr, OnErr, OnOk, Some, false, true, ℕ};
 ghost use Rattle.floor_hub.specs.Rooms.{Forgets, IsRemembered, OneRoom, Opens, admin_event, by_broken, refusal_in};
 ghost use Rattle.floor_hub.specs.declared.step.Step.TheVariants.{Admin, Open};
-ghost use Rattle.floor_loop.specs.Done.{AtMost, NoSteps};
+ghost use Rattle.floor_loop.specs.Done.{AtMost};
 ghost use Rattle.floor_machine.specs.declared.act.Act.TheVariants as acts;
-ghost use Rattle.floor_meetings.specs.Calls.{Quiet};
+ghost use Rattle.floor_meetings.specs.Calls.{Quiet, Still};
 ghost use Rattle.floor_connections.specs.Ports.{HasPort};
 ghost use Rattle.floor_connections.specs.Steps.{Steps};
 ghost use Rattle.floor_connections.specs.Table.{IsWanted};
@@ -134,7 +134,7 @@ impl Server {
 
     /// Gives the memory of a conference back that was closed and whose members have left, as the hub does.
     pub fn forget(&mut self, conference: u32) -> Result<(), HubRefusal>
-        ensures quiet { Quiet NoSteps self.old.meetings.hub self.new.meetings.hub }
+        ensures still { Still self.old.meetings.hub self.new.meetings.hub }
         ensures forgot { OnOk result (Forgets conference
             self.old.meetings.hub.hub self.new.meetings.hub.hub) }
         ensures refused { IfErr result (IsRemembered conference self.old.meetings.hub.hub) }

@@ -245,7 +245,7 @@ fn resumed(alloc: Global) -> Result<String, AllocError> {
     Ok(text)
 }
 
-/// A journal whose member was cut: it has left once the conference is resumed.
+/// A journal whose member was cut: it is there once the conference is resumed, is due at once, and leaves then.
 fn cut(alloc: Global) -> Result<String, AllocError> {
     let mut before = Loop::new(alloc);
     fill(alloc, &mut before, 2)?;
@@ -256,8 +256,15 @@ fn cut(alloc: Global) -> Result<String, AllocError> {
     let mut served = graced(alloc);
     let mut text = resume(alloc, &mut served, before.journal(1).unwrap_or(&[]))?;
     let members = served.status(1).map_or(0, |status| status.members);
+    write!(text, ", {members} members, due ")?;
+    let due = served.due(1_000);
+    push_number(&mut text, due)?;
+    let _left = served.leave(due.unwrap_or(0), 1_000);
+    let members = served.status(1).map_or(0, |status| status.members);
     write!(text, ", {members} member, away ")?;
     push_number(&mut text, served.away_for(2, 1_005))?;
+    text.push_str(", due ")?;
+    push_number(&mut text, served.due(1_000))?;
     Ok(text)
 }
 
@@ -342,8 +349,12 @@ fn a_full_conference_is_resumed(rt: HostRuntime) {
 }
 
 #[test]
-fn who_was_cut_leaves_when_resumed(rt: HostRuntime) {
-    assert_told(&rt, cut(rt.alloc()), "resumed, 1 member, away 5");
+fn who_was_cut_is_due_when_resumed(rt: HostRuntime) {
+    assert_told(
+        &rt,
+        cut(rt.alloc()),
+        "resumed, 2 members, due 1, 1 member, away 5, due none",
+    );
 }
 
 #[test]
