@@ -15,7 +15,7 @@ use Rattle.floor_loop.specs.Written.{IsServing, IsTimed, TookNothing, Wakes}
 use Rattle.floor_loop.specs.steps.Joined.{Adds, Attaches, fresh}
 use Rattle.floor_loop.specs.steps.Moved.{AreWoken, FewerStays, IsLoop, IsWoken, Keeps, KeepsAll, Moved, WasLive, loop_of}
 use Rattle.floor_loop.proofs.Calls.{moved-unattached}
-use Rattle.floor_loop.proofs.Moving.{arrivals-grow, joined, own-at, rooms-one}
+use Rattle.floor_loop.proofs.Moving.{arrivals-grow, joined, own-at, remain-one, rooms-one}
 use Rattle.floor_loop.proofs.Stepping.{is_not_none, kept-some, some-out, steps-turn, timed-at, wakes-on}
 
 -- the hub has refused it
@@ -35,7 +35,7 @@ module _ (conference user number : ℕ) (hub now : Hub) (a b c : Attended) (t : 
   ready-here = (here.0, here.1, own.ready here.0 here.1)
 
   pub steps-attached : Steps (AtMost 1 (Attach conference user)) hub now
-  steps-attached = steps-turn {T = ℕ} hub now (Attach conference user) Attached (Ok number) t.next
+  steps-attached = steps-turn {T = ℕ} hub now (Attach conference user) Attached (remain-one by_broken None (attach_event user) conference hub now t.room) (Ok number) t.next
 
   both : IsLoop (loop_of hub a) → IsServing (loop_of now c) × TookNothing (loop_of hub a) (loop_of now c)
   both l =

@@ -37,7 +37,7 @@ use Rattle.floor_loop.specs.steps.Moved.{AreWoken, FewerStays, IsLoop, KeepsAll,
 use Rattle.floor_loop.specs.steps.Taken.{TakenFor}
 use Rattle.floor_loop.proofs.Altering.{changed-none, keeps-changed, look-here, look-other}
 use Rattle.floor_loop.proofs.Over.{from-ledgers, over-same}
-use Rattle.floor_loop.proofs.Moving.{moved-on, moved-same, own-same, serves-on, steps-none, went-of, went-one, went-same}
+use Rattle.floor_loop.proofs.Moving.{moved-on, moved-same, own-same, remain-of, remain-one, remain-open, remain-same, remain-taken, serves-on, steps-none, went-of, went-one, went-same}
 use Rattle.floor_loop.proofs.Taking.{over-by, takes-each}
 use Rattle.floor_loop.proofs.Stepping.{keeps-live, keeps-refl, left-connections, some-out, stay-same, steps-gone, steps-same, steps-turn, timed-on, went-left, went-none, went-open}
 use Rattle.floor_loop.proofs.Watching.{gathers-ledgers}
@@ -51,7 +51,7 @@ pub moved-serve : (number : ℕ) (old new : Loop) (res : Result Served HubRefusa
     RoomOf by_broken (refusal_in res) serve_event (connection_at old.hub.connections number) old.hub new.hub → StayLive old.hub.connections new.hub.connections → Concerns old.hub new.hub → Gathers old.hub new.hub → KeepsAll (outgoing_at old) (outgoing_at new) → FewerStays old.attended new.attended → AreWoken new.hub new.attended →
     Moved (AtMost 1 (Serve number)) old new
 moved-serve number old new res next room stay concerns gathers keeps =
-    moved-told (AtMost 1 (Serve number)) old new (steps-turn old.hub new.hub (Serve number) answer_of res next) (went-of by_broken (refusal_in res) serve_event (connection_at old.hub.connections number) old.hub new.hub room stay gathers) concerns
+    moved-told (AtMost 1 (Serve number)) old new (steps-turn old.hub new.hub (Serve number) answer_of (remain-of by_broken (refusal_in res) serve_event (connection_at old.hub.connections number) old.hub new.hub room) res next) (went-of by_broken (refusal_in res) serve_event (connection_at old.hub.connections number) old.hub new.hub room stay gathers) concerns
     (keeps-live new.hub (outgoing_at old) (outgoing_at new) keeps)
 
 pub moved-took : (number k : ℕ) (old new : Loop) (res : Result (Unit {0}) HubRefusal) →
@@ -59,7 +59,7 @@ pub moved-took : (number k : ℕ) (old new : Loop) (res : Result (Unit {0}) HubR
     RoomOf by_broken (refusal_in res) (took_event k) (connection_at old.hub.connections number) old.hub new.hub → StayLive old.hub.connections new.hub.connections → Concerns old.hub new.hub → Gathers old.hub new.hub → KeepsAll (outgoing_at old) (outgoing_at new) → FewerStays old.attended new.attended → AreWoken new.hub new.attended →
     Moved (AtMost 1 (Takes number k)) old new
 moved-took number k old new res next room stay concerns gathers keeps =
-    moved-told (AtMost 1 (Takes number k)) old new (steps-turn old.hub new.hub (Takes number k) (λ _. Done) res next)
+    moved-told (AtMost 1 (Takes number k)) old new (steps-turn old.hub new.hub (Takes number k) (λ _. Done) (remain-of by_broken (refusal_in res) (took_event k) (connection_at old.hub.connections number) old.hub new.hub room) res next)
     (went-of by_broken (refusal_in res) (took_event k) (connection_at old.hub.connections number) old.hub new.hub room stay gathers) concerns (keeps-live new.hub (outgoing_at old) (outgoing_at new) keeps)
 
 pub moved-admin : (conference : ℕ) (act : Act) (old new : Loop) (res : Result (Unit {0}) HubRefusal) →
@@ -67,7 +67,7 @@ pub moved-admin : (conference : ℕ) (act : Act) (old new : Loop) (res : Result 
     OneRoom by_broken (refusal_in res) (admin_event act) conference old.hub new.hub → StayLive old.hub.connections new.hub.connections → Concerns old.hub new.hub → Gathers old.hub new.hub → KeepsAll (outgoing_at old) (outgoing_at new) → FewerStays old.attended new.attended → AreWoken new.hub new.attended →
     Moved (AtMost 1 (Admin conference act)) old new
 moved-admin conference act old new res next room stay concerns gathers keeps =
-    moved-told (AtMost 1 (Admin conference act)) old new (steps-turn old.hub new.hub (Admin conference act) (λ _. Done) res next) (went-one by_broken (refusal_in res) (admin_event act) conference old.hub new.hub room stay gathers) concerns
+    moved-told (AtMost 1 (Admin conference act)) old new (steps-turn old.hub new.hub (Admin conference act) (λ _. Done) (remain-one by_broken (refusal_in res) (admin_event act) conference old.hub new.hub room) res next) (went-one by_broken (refusal_in res) (admin_event act) conference old.hub new.hub room stay gathers) concerns
     (keeps-live new.hub (outgoing_at old) (outgoing_at new) keeps)
 
 pub moved-say : (conference user : ℕ) (bytes : List ℕ) (old new : Loop) (res : Result room.Said HubRefusal) →
@@ -75,7 +75,7 @@ pub moved-say : (conference user : ℕ) (bytes : List ℕ) (old new : Loop) (res
     OneRoom by_broken (refusal_in res) (say_event user bytes) conference old.hub new.hub → StayLive old.hub.connections new.hub.connections → Concerns old.hub new.hub → Gathers old.hub new.hub → KeepsAll (outgoing_at old) (outgoing_at new) → FewerStays old.attended new.attended → AreWoken new.hub new.attended →
     Moved (AtMost 1 (Say conference user bytes)) old new
 moved-say conference user bytes old new res next room stay concerns gathers keeps =
-    moved-told (AtMost 1 (Say conference user bytes)) old new (steps-turn old.hub new.hub (Say conference user bytes) Said res next) (went-one by_broken (refusal_in res) (say_event user bytes) conference old.hub new.hub room stay gathers) concerns
+    moved-told (AtMost 1 (Say conference user bytes)) old new (steps-turn old.hub new.hub (Say conference user bytes) Said (remain-one by_broken (refusal_in res) (say_event user bytes) conference old.hub new.hub room) res next) (went-one by_broken (refusal_in res) (say_event user bytes) conference old.hub new.hub room stay gathers) concerns
     (keeps-live new.hub (outgoing_at old) (outgoing_at new) keeps)
 
 -- a connection has left, and nothing is on its way to it any more
@@ -84,7 +84,7 @@ pub moved-leave : (number : ℕ) (old new : Loop) (res : Result (Unit {0}) HubRe
     RoomOf None (refusal_in res) leave_event (connection_at old.hub.connections number) old.hub new.hub → Puts old.hub.connections new.hub.connections number None → Concerns old.hub new.hub → Gathers old.hub new.hub → KeepsLive new.hub (outgoing_at old) (outgoing_at new) → FewerStays old.attended new.attended → AreWoken new.hub new.attended →
     Moved (AtMost 1 (Leave number)) old new
 moved-leave number old new res next room gone concerns gathers keeps =
-    moved-told (AtMost 1 (Leave number)) old new (steps-gone old.hub new.hub (Leave number) (λ _. Done) res next)
+    moved-told (AtMost 1 (Leave number)) old new (steps-gone old.hub new.hub (Leave number) (λ _. Done) (remain-of None (refusal_in res) leave_event (connection_at old.hub.connections number) old.hub new.hub room) res next)
     (went-left None (refusal_in res) leave_event (connection_at old.hub.connections number) number old.hub new.hub room gone gathers) concerns keeps
 
 -- an attach that was refused
@@ -92,7 +92,7 @@ pub moved-unattached : (conference user : ℕ) (old new : Loop) (r : HubRefusal)
     ((w : World) → StandsFor old.hub w → Fails new.hub w (Attach conference user) r) → OneRoom by_broken (Some r) (attach_event user) conference old.hub new.hub → LeftAt (attach_event user) conference old.hub new.hub r → Concerns old.hub new.hub → Gathers old.hub new.hub →
     KeepsAll (outgoing_at old) (outgoing_at new) → FewerStays old.attended new.attended → AreWoken new.hub new.attended → Moved (AtMost 1 (Attach conference user)) old new
 moved-unattached conference user old new r next room left concerns gathers keeps =
-    moved-told (AtMost 1 (Attach conference user)) old new (steps-turn {T = ℕ} old.hub new.hub (Attach conference user) Attached (Err r) next)
+    moved-told (AtMost 1 (Attach conference user)) old new (steps-turn {T = ℕ} old.hub new.hub (Attach conference user) Attached (remain-one by_broken (Some r) (attach_event user) conference old.hub new.hub room) (Err r) next)
     (went-one by_broken (Some r) (attach_event user) conference old.hub new.hub room (stay-same old.hub new.hub (left-connections (attach_event user) conference old.hub new.hub r left)) gathers) concerns
     (keeps-live new.hub (outgoing_at old) (outgoing_at new) keeps)
 
@@ -115,7 +115,7 @@ pub moved-piece : (number : ℕ) (bytes : List ℕ) (old new : Loop) (res : Resu
 moved-piece number bytes old new res next rooms stay kept keeps few =
     let went = went-same old.hub new.hub rooms stay kept in
     let live = keeps-live new.hub (outgoing_at old) (outgoing_at new) keeps in
-    moved-on (AtMost 1 (Piece number bytes)) old new (steps-same old.hub new.hub (Piece number bytes) (λ _. Done) res next) went live few
+    moved-on (AtMost 1 (Piece number bytes)) old new (steps-same old.hub new.hub (Piece number bytes) (λ _. Done) (remain-same old.hub new.hub rooms) res next) went live few
     (same-timed old new went (λ c r s is_r is_s. ap (λ (z : Room). z.ledger) (some_room s r (sym is_s ∙ rooms c ∙ is_r))) live)
   where
     some_room : (r s : Room) → ◌≡◌ {A = Option Room} (Some r) (Some s) → r ≡ s
@@ -128,7 +128,7 @@ pub moved-open : (config : Configuration) (old new : Loop) (res : Result (Unit {
 moved-open config old new res next opens same left kept keeps few =
     let went = went-open config old.hub new.hub res opens same left kept in
     let live = keeps-live new.hub (outgoing_at old) (outgoing_at new) keeps in
-    moved-on (AtMost 1 (Open config)) old new (steps-same old.hub new.hub (Open config) (λ _. Done) res next) went live few (same-timed old new went (ledgers res opens left) live)
+    moved-on (AtMost 1 (Open config)) old new (steps-same old.hub new.hub (Open config) (λ _. Done) (remain-open config old.hub new.hub res opens left) res next) went live few (same-timed old new went (ledgers res opens left) live)
   where
     some_room : (r s : Room) → ◌≡◌ {A = Option Room} (Some r) (Some s) → r ≡ s
     some_room r s e = cc
@@ -168,7 +168,7 @@ moved-taken number a b old new stands t few = by (lookup (nat_eq number) a.outgo
     idle same keeps =
         let went = went-none old new same t.gathered in
         let live = keeps-live new (outgoing_in a) (outgoing_in b) keeps in
-        moved-on NoSteps (loop_of old a) (loop_of new b) (steps-none NoSteps old new refl stands) went live few
+        moved-on NoSteps (loop_of old a) (loop_of new b) (steps-none NoSteps old new refl (remain-same old new same.rooms) stands) went live few
         (same-timed (loop_of old a) (loop_of new b) went (λ c r s is_r is_s. ap (λ (z : Room). z.ledger) (some_room s r (sym is_s ∙ same.rooms c ∙ is_r))) live)
 
     -- parcels were taken
@@ -180,7 +180,7 @@ moved-taken number a b old new stands t few = by (lookup (nat_eq number) a.outgo
         let parcels : t.parcels ≡ o.parcels + length g.0 = count ∙ ap (λ (k : ℕ). o.parcels + k) g.1 in
         let all = takes-each (loop_of old a) (loop_of new b) number x o g.0 live is g.3 (carrying t.rest t.parcels o, here, g.2, parcels, refl, refl) others stands in
         record {
-          steps = steps-none NoSteps old new refl stands;
+          steps = steps-none NoSteps old new refl (remain-taken x.conference x.n g.0 old new g.3) stands;
           live = λ k z live. record { connection = z; live = sym (g.3.connections k) ∙ live; conference = refl; n = refl };
           serving = λ l. (all l).0;
           timed = λ l. (all l).1;

@@ -17,7 +17,7 @@ use Rattle.floor_loop.specs.steps.Carried.{Carries, IsUntouched}
 use Rattle.floor_loop.specs.steps.Moved.{IsLoop, Moved, WasLive}
 use Rattle.floor_loop.specs.steps.Thrown.{Thrown}
 use Rattle.floor_loop.proofs.Calling.{took-refl}
-use Rattle.floor_loop.proofs.Moving.{loop-moves, steps-both, steps-none, steps-of, took-through}
+use Rattle.floor_loop.proofs.Moving.{loop-moves, remain-refl, steps-both, steps-none, steps-of, took-through}
 use Rattle.floor_loop.proofs.Watching.{gathers-both, gathers-refl}
 
 some_connection : (x y : Connection) → ◌≡◌ {A = Option Connection} (Some x) (Some y) → x ≡ y
@@ -28,7 +28,7 @@ not_both e = cc
 
 pub carries-same : (conference : ℕ) (a : Loop) → Carries conference a a
 carries-same conference a = record {
-  steps = steps-none AnySteps a.hub a.hub tt (λ w st. st);
+  steps = steps-none AnySteps a.hub a.hub tt (remain-refl a.hub) (λ w st. st);
   loop = λ l. l;
   others = λ l k y is ne. record { was = record { connection = y; live = is; conference = refl; n = refl }; took = took-refl a k };
   gathered = gathers-refl a.hub;

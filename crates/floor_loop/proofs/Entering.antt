@@ -25,7 +25,7 @@ use Rattle.floor_loop.specs.steps.Moved.{FewerStays, IsLoop, Moved, WasLive, loo
 use Rattle.floor_loop.proofs.Altering.{look-here, look-other}
 use Rattle.floor_loop.proofs.Calling.{new-is}
 use Rattle.floor_loop.proofs.Calls.{moved-kept}
-use Rattle.floor_loop.proofs.Moving.{moved-same, steps-both, steps-none, took-then}
+use Rattle.floor_loop.proofs.Moving.{moved-same, remain-refl, steps-both, steps-none, took-then}
 use Rattle.floor_loop.proofs.Sparing.{spared-through, spares-same}
 use Rattle.floor_loop.proofs.Stepping.{alone-both, keeps-live, keeps-passed, some-out, stays-kept, wakes-same}
 use Rattle.floor_loop.proofs.Watching.{gathers-refl}
@@ -156,7 +156,7 @@ module _ (hub : Hub) (a b : Attended) (number : ℕ) (next : b.outgoing ≡ chan
 
   pub moved-unended : (IsLoop (loop_of hub a) → (x : Connection) (r : Room) → connection_at hub.connections number ≡ Some x → room_at hub x.conference ≡ Some r → ¬ IsOver r x.n) → (IsLoop (loop_of hub a) → StaysAreOwn (loop_of hub b)) → Moved NoSteps (loop_of hub a) (loop_of hub b)
   moved-unended calm own = record {
-    steps = steps-none NoSteps hub hub refl (λ w st. st);
+    steps = steps-none NoSteps hub hub refl (remain-refl hub) (λ w st. st);
     live = λ k y is. record { connection = y; live = is; conference = refl; n = refl };
     serving = λ l. serving-unended l.serving;
     timed = timed-unended calm;
@@ -274,15 +274,19 @@ new-passed hub b c number same n = record {
   unacknowledged = n.unacknowledged;
 }
 
+-- what is on its way to each is what it was
+pub kept-still : (hub : Hub) (a b : Attended) → b.outgoing ≡ a.outgoing → (IsLoop (loop_of hub a) → StaysAreOwn (loop_of hub b)) → Moved NoSteps (loop_of hub a) (loop_of hub b)
+kept-still hub a b next own = moved-same (loop_of hub a) (loop_of hub b) refl (keeps-live hub (outgoing_in a) (outgoing_in b) (keeps-passed a b next)) own
+
 -- who was kept may be told something still; who wasn't is as it was
 pub kept-moves : (hub : Hub) (a b : Attended) (number : ℕ) (kept : Bool) → b.outgoing ≡ cond kept (changed unended number a.outgoing) a.outgoing →
     (IsLoop (loop_of hub a) → (x : Connection) (r : Room) → connection_at hub.connections number ≡ Some x → room_at hub x.conference ≡ Some r → ¬ IsOver r x.n) → (IsLoop (loop_of hub a) → StaysAreOwn (loop_of hub b)) → Moved NoSteps (loop_of hub a) (loop_of hub b)
 kept-moves hub a b number true next calm own = moved-unended hub a b number next calm own
-kept-moves hub a b number false next calm own = moved-same (loop_of hub a) (loop_of hub b) refl (keeps-live hub (outgoing_in a) (outgoing_in b) (keeps-passed a b next)) own
+kept-moves hub a b number false next calm own = kept-still hub a b next own
 
 -- nobody comes, and nobody leaves
 pub returns-none : (conference user : ℕ) (hub : Hub) → Steps (Returns conference user []) hub hub
-returns-none conference user hub = steps-none (Returns conference user []) hub hub (record { first = []; next = []; all = refl; are = (omega arith, tt); follow = refl }) (λ w st. st)
+returns-none conference user hub = steps-none (Returns conference user []) hub hub (record { first = []; next = []; all = refl; are = (omega arith, tt); follow = refl }) (remain-refl hub) (λ w st. st)
 
 module _ (hub : Hub) (b c : Attended) (same : c.outgoing ≡ b.outgoing) where
   pub still-wakes : Wakes (loop_of hub b) (loop_of hub c)

@@ -6,22 +6,23 @@ use Rattle.floor_hub.specs.declared.step.Answer.TheVariants.{Done}
 use Rattle.floor_hub.specs.declared.step.Step.{Step}
 use Rattle.floor_hub.specs.declared.step.Step.TheVariants.{Piece, Serve}
 use Rattle.floor_hub.specs.Calls.{FailsSame, Turns}
-use Rattle.floor_hub.specs.Hub.{Hub}
+use Rattle.floor_hub.specs.Hub.{Hub, room_at}
 use Rattle.floor_hub.specs.StandsFor.{StandsFor}
 use Rattle.floor_hub.specs.World.{World}
 use Rattle.floor_loop.specs.Done.{AtMost, Hands, Steps}
-use Rattle.floor_loop.proofs.Moving.{steps-both}
+use Rattle.floor_loop.proofs.Moving.{remain-same, steps-both}
 
 -- a piece that the hub took
 pub handed : (number most : ℕ) (bytes : List ℕ) (old mid new : Hub) (res : Result (Unit {0}) HubRefusal) (v : Unit {0}) → res ≡ Ok v →
     ((w : World) → StandsFor old w → MatchResult res (λ _. Turns mid w (Piece number bytes) Done) (λ r. FailsSame mid w (Piece number bytes) r)) →
-    Steps (AtMost most (Serve number)) mid new → Steps (Hands number bytes most) old new
-handed number most bytes old mid new res v is next served =
+    ((c : ℕ) → room_at mid c ≡ room_at old c) → Steps (AtMost most (Serve number)) mid new → Steps (Hands number bytes most) old new
+handed number most bytes old mid new res v is next rooms served =
     steps-both (λ (steps : List Step). steps ≡ Piece number bytes ∷ []) (AtMost most (Serve number)) old mid new
     (λ w st. record {
       steps = Piece number bytes ∷ [];
       are = refl;
       stands = (subst (λ (z : Result (Unit {0}) HubRefusal). MatchResult z (λ _. Turns mid w (Piece number bytes) Done) (λ r. FailsSame mid w (Piece number bytes) r)) is (next w st)).0;
+      remain = remain-same old mid rooms;
     }) served
 
 pub on-ok : {T : Type 0} (P : Type 0) (res : Result T HubRefusal) → P → OnOk res P

@@ -19,6 +19,7 @@ pub mod Forgetting
 pub mod Throwing
 pub mod Soonest
 pub mod Entering
+pub mod Staying
 pub mod Gathering
 pub mod Losing
 pub mod Standing

@@ -1,6 +1,6 @@
 -- A loop moves on with its hub.
-use Rattle.std.proofs.Common.{◌≡◌, ◌≢◌, ◌⊎◌, inl, inr, ℕ, zero, suc, ◌+◌, ◌-◌, ◌≤◌, true, false, List, [], ◌∷◌, ◌++◌, length, take, map, refl, sym, ◌∙◌, ap, subst, arith, append_assoc, append-nil, length-append, Some, None}
-use Rattle.std.specs.Prelude.{Option, IsSome, nat_eq, slice_get}
+use Rattle.std.proofs.Common.{◌≡◌, ◌≢◌, ◌⊎◌, inl, inr, ℕ, zero, suc, ◌+◌, ◌-◌, ◌≤◌, true, false, List, [], ◌∷◌, ◌++◌, length, take, drop, map, refl, sym, ◌∙◌, ap, subst, arith, append_assoc, append-nil, length-append, Some, None}
+use Rattle.std.specs.Prelude.{Option, Result, Ok, Err, IsSome, OnErr, OnOk, nat_eq, slice_get}
 use Rattle.std.specs.Option.{option_map_or}
 use Rattle.std.proofs.lemmas.Bool.Decides.{eqb_tells}
 use Rattle.std.proofs.lemmas.Option.{none-some}
@@ -15,7 +15,7 @@ use Rattle.floor_machine.specs.declared.machine.Refusal.TheVariants as machine
 use Rattle.floor_room.specs.declared.refusal.RoomRefusal.TheVariants as room
 use Rattle.floor_room.specs.Outbox.{Outbox}
 use Rattle.floor_room.specs.Replay.{bytes_of}
-use Rattle.floor_room.specs.Room.{Room}
+use Rattle.floor_room.specs.Room.{Room, parcels_to}
 use Rattle.floor_hub.specs.declared.connection.Connection.{Connection}
 use Rattle.floor_hub.specs.declared.refusal.HubRefusal.{HubRefusal}
 use Rattle.floor_hub.specs.declared.refusal.HubRefusal.TheVariants.{ByRoom}
@@ -24,7 +24,7 @@ use Rattle.floor_hub.specs.declared.step.Step.TheVariants.{Piece}
 use Rattle.floor_hub.specs.Connections.{SamePlace, StayLive, connection_at}
 use Rattle.floor_hub.specs.Gathers.{Gathers}
 use Rattle.floor_hub.specs.Hub.{Hub, room_at}
-use Rattle.floor_hub.specs.Rooms.{AddsOwn, Joins, OneRoom, QueuesMore, RoomAfter, RoomAfterIn, RoomOf, taken_of}
+use Rattle.floor_hub.specs.Rooms.{AddsOwn, Joins, OneRoom, Opens, QueuesMore, RoomAfter, RoomAfterIn, RoomOf, SameHub, TakenEach, TookEach, taken_of}
 use Rattle.floor_hub.specs.Runs.{run}
 use Rattle.floor_hub.specs.StandsFor.{NumberStands, StandsFor}
 use Rattle.floor_hub.specs.Members.{user_of}
@@ -33,14 +33,14 @@ use Rattle.floor_hub.specs.declared.step.Answer.TheVariants as answer
 use Rattle.floor_hub.specs.World.{Aim, Place, World, aimed, places_after, turn, turn_at, offer}
 use Rattle.floor_machine.specs.Events.{joiner}
 use Rattle.std.specs.Prelude.{filter_map}
-use Rattle.std.proofs.lemmas.List.{get_or_append_left}
+use Rattle.std.proofs.lemmas.List.{get_or_append_left, take-append-drop}
 use Rattle.std.proofs.lemmas.List.Elements.{filter_map-append}
 use Rattle.std.proofs.lemmas.Option.{get_or_from_slice_get, slice_get-get_or, slice_get_within}
 use Rattle.floor_loop.specs.Away.{Away, stay_of}
 use Rattle.floor_loop.specs.Returned.{StaysAreOwn}
 use Rattle.floor_loop.specs.Loop.{Attended, Loop, Outgoing, outgoing_at, until_of}
-use Rattle.floor_loop.specs.Done.{AtMost, Each, NoSteps, Reads, Steps, Then}
-use Rattle.floor_loop.specs.Written.{Attends, IsOnItsWay, IsServing, IsTimed, Took, TookNothing, acknowledged, called_for, taken_bytes, written}
+use Rattle.floor_loop.specs.Done.{AtMost, Each, NoSteps, Reads, Remains, RoomsRemain, StandsStill, Steps, Then}
+use Rattle.floor_loop.specs.Written.{Attends, IsOnItsWay, IsServing, IsTimed, Took, TookNothing, acknowledged, called_for, kept_for, taken_bytes, written}
 use Rattle.floor_loop.specs.steps.Moved.{FewerStays, Grows, IsLoop, Keeps, KeepsLive, Moved, WasLive, Went}
 use Rattle.floor_loop.proofs.Over.{over-grows}
 use Rattle.floor_loop.proofs.Watching.{gathers-both, gathers-ledgers, gathers-refl}
@@ -48,6 +48,90 @@ use Rattle.floor_loop.proofs.Front.{before, taken-stay, within-more}
 
 some_is : {A : Type 0} (x y : A) → ◌≡◌ {A = Option A} (Some x) (Some y) → x ≡ y
 some_is x y e = cc
+
+-- rooms that remain
+
+pub remains-same : (r s : Room) → s ≡ r → Remains r s
+remains-same r s e = subst (Remains r) (sym e) (record { kept = refl; config = refl; more = []; journal = sym (append-nil r.ledger.journal) })
+
+remains-both : (q r s : Room) → Remains q r → Remains r s → Remains q s
+remains-both q r s a b = record {
+  kept = b.kept ∙ a.kept;
+  config = b.config ∙ a.config;
+  more = a.more ++ b.more;
+  journal = b.journal ∙ ap (λ (es : List Event). es ++ b.more) a.journal ∙ append_assoc q.ledger.journal a.more b.more;
+}
+
+pub remain-same : (old new : Hub) → ((d : ℕ) → room_at new d ≡ room_at old d) → RoomsRemain old new
+remain-same old new same d r is = (r, same d ∙ is, remains-same r r refl)
+
+pub remain-refl : (hub : Hub) → RoomsRemain hub hub
+remain-refl hub = remain-same hub hub (λ d. refl)
+
+pub remain-equal : (old new : Hub) → new ≡ old → RoomsRemain old new
+remain-equal old new same = remain-same old new (λ d. ap (λ (h : Hub). room_at h d) same)
+
+remain-both : (a b c : Hub) → RoomsRemain a b → RoomsRemain b c → RoomsRemain a c
+remain-both a b c f g d r is =
+    let s = f d r is in
+    let t = g d s.0 s.1 in
+    (t.0, t.1, remains-both r s.0 t.0 s.2 t.2)
+
+adds-some : (why : Option HubRefusal) (own old new : List Event) → AddsOwn why own old new → (more : List Event) × (new ≡ old ++ more)
+adds-some None own old new h = (own, h)
+adds-some (Some (ByRoom (room.Refused machine.Memory))) own old new (inl h) = ([], h ∙ sym (append-nil old))
+adds-some (Some (ByRoom (room.Refused machine.Memory))) own old new (inr h) = (own, h)
+adds-some (Some refusal) own old new h = ([], h ∙ sym (append-nil old))
+
+remains-after : (shut why : Option HubRefusal) (own : List Event) (r s : Room) → RoomAfter shut why own r s → Remains r s
+remains-after shut why own r s a =
+    let m = adds-some why own r.ledger.journal s.ledger.journal a.journal in
+    record { kept = a.kept; config = a.config; more = m.0; journal = m.1 }
+
+pub remain-one : (shut why : Option HubRefusal) (own : Room → List Event) (c : ℕ) (old new : Hub) → OneRoom shut why own c old new → RoomsRemain old new
+remain-one shut why own c old new one d r is = by (eqb_tells c d)
+  where
+    here : (y z : Option Room) → RoomAfterIn shut why own y z → y ≡ Some r → (s : Room) × (z ≡ Some s) × Remains r s
+    here None z a e = absurd (none-some r e)
+    here (Some q) None a e = absurd a
+    here (Some q) (Some s) a e = (s, refl, subst (λ (i : Room). Remains i s) (some_is q r e) (remains-after shut why (own q) q s a))
+
+    by : (((nat_eq c d ≡ true) × (c ≡ d)) ⊎ ((nat_eq c d ≡ false) × (c ≢ d))) → (s : Room) × (room_at new d ≡ Some s) × Remains r s
+    by (inl t) = subst (λ (i : ℕ). (s : Room) × (room_at new i ≡ Some s) × Remains r s) t.1 (here (room_at old c) (room_at new c) one.own (ap (room_at old) t.1 ∙ is))
+    by (inr t) = (r, one.others d t.0 ∙ is, remains-same r r refl)
+
+pub remain-of : (shut why : Option HubRefusal) (own : Connection → Room → List Event) (x : Option Connection) (old new : Hub) → RoomOf shut why own x old new → RoomsRemain old new
+remain-of shut why own None old new a = remain-same old new a.0.rooms
+remain-of shut why own (Some x) old new a = remain-one shut why (own x) x.conference old new a
+
+pub remain-open : (config : Configuration) (old new : Hub) (res : Result (Unit {0}) HubRefusal) → OnOk res (Opens config old new) → OnErr res (SameHub old new) → RoomsRemain old new
+remain-open config old new (Err r) opens left = remain-same old new left.rooms
+remain-open config old new (Ok v) opens left = λ d r is. by d r is (eqb_tells config.conference d)
+  where
+    by : (d : ℕ) (r : Room) → room_at old d ≡ Some r → (((nat_eq config.conference d ≡ true) × (config.conference ≡ d)) ⊎ ((nat_eq config.conference d ≡ false) × (config.conference ≢ d))) → (s : Room) × (room_at new d ≡ Some s) × Remains r s
+    by d r is (inl t) = absurd (none-some r (sym opens.absent ∙ ap (room_at old) t.1 ∙ is))
+    by d r is (inr t) = (r, opens.others d t.0 ∙ is, remains-same r r refl)
+
+-- what was taken out of a room leaves it as it was, but for its outboxes
+remains-taken : (r s : Room) (n : ℕ) (parcels : List Parcel) → TookEach r s n parcels → Remains r s
+remains-taken r s n [] h = remains-same r s h
+remains-taken r s n (p ∷ ps) h =
+    let t = remains-taken h.0 s n ps h.3 in
+    record {
+      kept = t.kept ∙ ap (λ (z : Room). z.kept) h.2.same;
+      config = t.config ∙ ap (λ (z : Room). z.ledger.config) h.2.same;
+      more = t.more;
+      journal = t.journal ∙ ap (λ (z : Room). z.ledger.journal ++ t.more) h.2.same;
+    }
+
+pub remain-taken : (c n : ℕ) (parcels : List Parcel) (old new : Hub) → TakenEach c n parcels old new → RoomsRemain old new
+remain-taken c n parcels old new f d r is = by (eqb_tells c d)
+  where
+    by : (((nat_eq c d ≡ true) × (c ≡ d)) ⊎ ((nat_eq c d ≡ false) × (c ≢ d))) → (s : Room) × (room_at new d ≡ Some s) × Remains r s
+    by (inl t) =
+        let was : f.before ≡ r = some_is f.before r (sym f.was ∙ ap (room_at old) t.1 ∙ is) in
+        (f.after, ap (room_at new) (sym t.1) ∙ f.now, subst (λ (z : Room). Remains z f.after) was (remains-taken f.before f.after n parcels f.took))
+    by (inr t) = (r, f.others d t.0 ∙ is, remains-same r r refl)
 
 -- steps, one after another
 
@@ -83,13 +167,14 @@ steps-both First Next a b c f g = λ w st.
       steps = u.steps ++ v.steps;
       are = record { first = u.steps; next = v.steps; all = refl; are = u.are; follow = v.are };
       stands = subst (StandsFor c) (sym (run-append w u.steps v.steps)) v.stands;
+      remain = remain-both a b c u.remain v.remain;
     }
 
 pub steps-of : (Are Others : List Step → Type 0) (a b : Hub) → ((steps : List Step) → Are steps → Others steps) → Steps Are a b → Steps Others a b
-steps-of Are Others a b f g = λ w st. let u = g w st in record { steps = u.steps; are = f u.steps u.are; stands = u.stands }
+steps-of Are Others a b f g = λ w st. let u = g w st in record { steps = u.steps; are = f u.steps u.are; stands = u.stands; remain = u.remain }
 
-pub steps-none : (Are : List Step → Type 0) (a b : Hub) → Are [] → ((w : World) → StandsFor a w → StandsFor b w) → Steps Are a b
-steps-none Are a b none f = λ w st. record { steps = []; are = none; stands = f w st }
+pub steps-none : (Are : List Step → Type 0) (a b : Hub) → Are [] → RoomsRemain a b → StandsStill a b → Steps Are a b
+steps-none Are a b none remain f = λ w st. record { steps = []; are = none; stands = f w st; remain = remain }
 
 -- bytes alone are read, too
 pub piece-alone : (number : ℕ) (bytes : List ℕ) (most : ℕ) (steps : List Step) → AtMost 1 (Piece number bytes) steps → Reads number bytes most steps
@@ -109,13 +194,47 @@ map-append : (f : Message → Parcel) (xs ys : List Message) → map f (xs ++ ys
 map-append f [] ys = refl
 map-append f (x ∷ xs) ys = ap (λ (z : List Parcel). f x ∷ z) (map-append f xs ys)
 
+-- more events call for what was called for, and more
+pub parcels-more : (config : Configuration) (es more : List Event) (n : ℕ) → (later : List Parcel) × (parcels_to config (es ++ more) n ≡ parcels_to config es n ++ later)
+parcels-more config es more n = (
+  map (parcel n) (told_from (after_from (opening config) es) more n),
+  ap (map (parcel n)) (told-both (opening config) es more n) ∙ map-append (parcel n) (told_from (opening config) es n) (told_from (after_from (opening config) es) more n),
+)
+
 called-more : (r s : Room) (n : ℕ) → Grows r s → (more : List Parcel) × (called_for s n ≡ called_for r n ++ more)
 called-more r s n g =
-    let told : told_from (opening s.ledger.config) s.ledger.journal n ≡ told_from (opening r.ledger.config) r.ledger.journal n ++ told_from (after_from (opening r.ledger.config) r.ledger.journal) g.more n =
-    ap (λ (c : Configuration). told_from (opening c) s.ledger.journal n) g.config ∙ ap (λ (es : List Event). told_from (opening r.ledger.config) es n) g.journal ∙ told-both (opening r.ledger.config) r.ledger.journal g.more n in (
-      map (parcel n) (told_from (after_from (opening r.ledger.config) r.ledger.journal) g.more n),
-      ap (map (parcel n)) told ∙ map-append (parcel n) (told_from (opening r.ledger.config) r.ledger.journal n) (told_from (after_from (opening r.ledger.config) r.ledger.journal) g.more n),
-    )
+    let m = parcels-more r.ledger.config r.ledger.journal g.more n in
+    (m.0, ap (λ (c : Configuration). parcels_to c s.ledger.journal n) g.config ∙ ap (λ (es : List Event). parcels_to r.ledger.config es n) g.journal ∙ m.1)
+
+kept-more : (r s : Room) (n : ℕ) → Grows r s → (more : List Parcel) × (kept_for s n ≡ kept_for r n ++ more)
+kept-more r s n g =
+    let m = parcels-more r.ledger.config (take r.kept r.ledger.journal) g.later n in
+    (m.0, ap (λ (c : Configuration). parcels_to c (take s.kept s.ledger.journal) n) g.config ∙ ap (λ (es : List Event). parcels_to r.ledger.config es n) g.kept ∙ m.1)
+
+-- what the events that are kept call for is a front of what all do
+pub kept-front : (r : Room) (n : ℕ) → (more : List Parcel) × (called_for r n ≡ kept_for r n ++ more)
+kept-front r n =
+    let m = parcels-more r.ledger.config (take r.kept r.ledger.journal) (drop r.kept r.ledger.journal) n in
+    (m.0, ap (λ (es : List Event). parcels_to r.ledger.config es n) (sym (take-append-drop r.kept r.ledger.journal)) ∙ m.1)
+
+pub called-within : (r : Room) (n k : ℕ) → k ≤ length (kept_for r n) → k ≤ length (called_for r n)
+called-within r n k within = let m = kept-front r n in within-more (kept_for r n) (called_for r n) m.0 k m.1 within
+
+-- so many of some events are some of these and more
+pub take-grown : (k : ℕ) (es more : List Event) → (later : List Event) × (take k (es ++ more) ≡ take k es ++ later)
+take-grown zero es more = ([], refl)
+take-grown (suc k) [] more = (take (suc k) more, refl)
+take-grown (suc k) (e ∷ es) more = let t = take-grown k es more in (t.0, ap (λ (z : List Event). e ∷ z) t.1)
+
+-- and more of them are those and more
+pub take-more : (k j : ℕ) (es : List Event) → k ≤ j → (later : List Event) × (take j es ≡ take k es ++ later)
+take-more zero j es le = (take j es, refl)
+take-more (suc k) zero es le = absurd (not-below k le)
+  where
+    not-below : (i : ℕ) → suc i ≤ zero → ⊥
+    not-below i e = omega (arith, e)
+take-more (suc k) (suc j) [] le = ([], refl)
+take-more (suc k) (suc j) (e ∷ es) le = let t = take-more k j es (omega (arith, le)) in (t.0, ap (λ (z : List Event). e ∷ z) t.1)
 
 -- what was taken from a room stays when it grows
 pub taken-same : (r s : Room) (n : ℕ) → Grows r s → taken_of r n ≤ length (called_for r n) → taken_bytes s n ≡ taken_bytes r n
@@ -139,23 +258,26 @@ ack-same r s n parcels g within =
 
 pub way-grows : (r s : Room) (n : ℕ) (rest : List ℕ) (parcels : ℕ) → Grows r s → IsOnItsWay r n rest parcels → IsOnItsWay s n rest parcels
 way-grows r s n rest parcels g h =
-    let m = called-more r s n g in
+    let m = kept-more r s n g in
+    let within = called-within r n (taken_of r n) h.within in
     record {
-      within = subst (λ (k : ℕ). k ≤ length (called_for s n)) (sym (g.taken n)) (within-more (called_for r n) (called_for s n) m.0 (taken_of r n) m.1 h.within);
+      within = subst (λ (k : ℕ). k ≤ length (kept_for s n)) (sym (g.taken n)) (within-more (kept_for r n) (kept_for s n) m.0 (taken_of r n) m.1 h.within);
       sent = h.sent;
-      all = taken-same r s n g h.within ∙ h.all;
+      all = taken-same r s n g within ∙ h.all;
       fewer = subst (λ (k : ℕ). parcels ≤ k) (sym (g.taken n)) h.fewer;
       later = h.later;
-      whole = h.whole ∙ ap (λ (z : List ℕ). z ++ h.later) (sym (ack-same r s n parcels g h.within));
+      whole = h.whole ∙ ap (λ (z : List ℕ). z ++ h.later) (sym (ack-same r s n parcels g within));
     }
 
 pub written-grows : (r s : Room) (n : ℕ) (rest : List ℕ) (parcels : ℕ) → Grows r s → IsOnItsWay r n rest parcels → written s n rest ≡ written r n rest
-written-grows r s n rest parcels g h = ap (λ (z : List ℕ). before z rest) (taken-same r s n g h.within)
+written-grows r s n rest parcels g h = ap (λ (z : List ℕ). before z rest) (taken-same r s n g (called-within r n (taken_of r n) h.within))
 
 -- rooms after the calls of a hub
 
 pub grows-same : (r s : Room) → s ≡ r → Grows r s
-grows-same r s e = subst (Grows r) (sym e) (record { config = refl; more = []; journal = sym (append-nil r.ledger.journal); taken = λ n. refl; broken = λ h. h })
+grows-same r s e =
+    subst (Grows r) (sym e)
+    (record { config = refl; more = []; journal = sym (append-nil r.ledger.journal); later = []; kept = sym (append-nil (take r.kept r.ledger.journal)); taken = λ n. refl; broken = λ h. h })
 
 untaken-more : (os ps : List Outbox) (k : ℕ) → QueuesMore os ps → option_map_or (λ o. o.taken) (slice_get ps k) 0 ≡ option_map_or (λ o. o.taken) (slice_get os k) 0
 untaken-more [] [] k h = refl
@@ -169,16 +291,19 @@ untaken-at : (r s : Room) (n : ℕ) → QueuesMore r.outboxes s.outboxes → tak
 untaken-at r s zero h = refl
 untaken-at r s (suc k) h = untaken-more r.outboxes s.outboxes k h
 
-adds-some : (why : Option HubRefusal) (own old new : List Event) → AddsOwn why own old new → (more : List Event) × (new ≡ old ++ more)
-adds-some None own old new h = (own, h)
-adds-some (Some (ByRoom (room.Refused machine.Memory))) own old new (inl h) = ([], h ∙ sym (append-nil old))
-adds-some (Some (ByRoom (room.Refused machine.Memory))) own old new (inr h) = (own, h)
-adds-some (Some refusal) own old new h = ([], h ∙ sym (append-nil old))
-
 grows-after : (shut why : Option HubRefusal) (own : List Event) (r s : Room) → RoomAfter shut why own r s → Grows r s
 grows-after shut why own r s a =
     let m = adds-some why own r.ledger.journal s.ledger.journal a.journal in
-    record { config = a.config; more = m.0; journal = m.1; taken = λ n. untaken-at r s n a.outboxes; broken = λ h. a.broken.1 (inl h) }
+    let t = take-grown r.kept r.ledger.journal m.0 in
+    record {
+      config = a.config;
+      more = m.0;
+      journal = m.1;
+      later = t.0;
+      kept = ap (λ (k : ℕ). take k s.ledger.journal) a.kept ∙ ap (take r.kept) m.1 ∙ t.1;
+      taken = λ n. untaken-at r s n a.outboxes;
+      broken = λ h. a.broken.1 (inl h);
+    }
 
 pub rooms-one : (shut why : Option HubRefusal) (own : Room → List Event) (c : ℕ) (old new : Hub) → OneRoom shut why own c old new → (d : ℕ) (r : Room) → room_at old d ≡ Some r →
     (s : Room) × (room_at new d ≡ Some s) × Grows r s
@@ -330,7 +455,7 @@ own-same a b same fewer l k s is =
 pub fewer : (a b : Attended) → b.away ≡ a.away → FewerStays a b
 fewer a b same k s is = ap (λ (z : Away). stay_of z k) (sym same) ∙ is
 
-moved-owning : (Are : List Step → Type 0) (old new : Loop) → Steps Are old.hub new.hub → Went old.hub new.hub → KeepsLive new.hub (outgoing_at old) (outgoing_at new) → (IsLoop old → StaysAreOwn new) → (IsLoop old → IsTimed new) → Moved Are old new
+pub moved-owning : (Are : List Step → Type 0) (old new : Loop) → Steps Are old.hub new.hub → Went old.hub new.hub → KeepsLive new.hub (outgoing_at old) (outgoing_at new) → (IsLoop old → StaysAreOwn new) → (IsLoop old → IsTimed new) → Moved Are old new
 moved-owning Are old new steps went keeps own timed = record {
   steps = steps;
   live = went.live;
@@ -399,7 +524,7 @@ moved-before Are a b c f g = moved-of (Then Are NoSteps) Are a c (then-none Are)
 
 -- a loop of which nothing that is on its way has changed, and no mark is gone
 pub moved-same : (a b : Loop) → b.hub ≡ a.hub → KeepsLive b.hub (outgoing_at a) (outgoing_at b) → (IsLoop a → StaysAreOwn b) → Moved NoSteps a b
-moved-same a b same keeps own = moved-owning NoSteps a b (steps-none NoSteps a.hub b.hub refl (λ w st. subst (λ (h : Hub). StandsFor h w) (sym same) st)) went keeps own timed
+moved-same a b same keeps own = moved-owning NoSteps a b (steps-none NoSteps a.hub b.hub refl (remain-equal a.hub b.hub same) (λ w st. subst (λ (h : Hub). StandsFor h w) (sym same) st)) went keeps own timed
   where
     went : Went a.hub b.hub
     went = subst (Went a.hub) (sym same) (record {

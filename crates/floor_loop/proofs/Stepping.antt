@@ -23,7 +23,7 @@ use Rattle.floor_hub.specs.StandsFor.{StandsFor}
 use Rattle.floor_hub.specs.World.{World, turn}
 use Rattle.floor_loop.specs.Loop.{Attended, Loop, Outgoing, outgoing_at, outgoing_in, until_of}
 use Rattle.floor_loop.specs.Written.{Attends, IsOver, IsServing, IsTimed, Wakes}
-use Rattle.floor_loop.specs.Done.{AtMost, Goes, Steps}
+use Rattle.floor_loop.specs.Done.{AtMost, Goes, RoomsRemain, Steps}
 use Rattle.floor_loop.specs.steps.Moved.{AreWoken, Grows, IsLoop, IsWoken, Keeps, KeepsAll, KeepsLive, KeptAt, Moved, WasLive, Went}
 use Rattle.floor_hub.specs.Concerned.{Concerns, IsLeftAlone}
 use Rattle.std.specs.List.{Contains}
@@ -32,25 +32,25 @@ use Rattle.floor_loop.proofs.Moving.{grows-same, rooms-of, rooms-same, was-live}
 use Rattle.floor_loop.proofs.Watching.{gathers-ledgers}
 
 -- a step of the world, or want of memory by which the hub stands for the same one
-steps-by : (old new : Hub) (s : Step) → ((w : World) → StandsFor old w → StandsFor new w ⊎ StandsFor new (turn w s).world) → Steps (AtMost 1 s) old new
-steps-by old new s f w st = by (f w st)
+steps-by : (old new : Hub) (s : Step) → RoomsRemain old new → ((w : World) → StandsFor old w → StandsFor new w ⊎ StandsFor new (turn w s).world) → Steps (AtMost 1 s) old new
+steps-by old new s remain f w st = by (f w st)
   where
-    by : StandsFor new w ⊎ StandsFor new (turn w s).world → Goes (AtMost 1 s) new w
-    by (inl h) = record { steps = []; are = (omega arith, tt); stands = h }
-    by (inr h) = record { steps = s ∷ []; are = (omega arith, (refl, tt)); stands = h }
+    by : StandsFor new w ⊎ StandsFor new (turn w s).world → Goes (AtMost 1 s) old new w
+    by (inl h) = record { steps = []; are = (omega arith, tt); stands = h; remain = remain }
+    by (inr h) = record { steps = s ∷ []; are = (omega arith, (refl, tt)); stands = h; remain = remain }
 
-module _ {T : Type 0} (old new : Hub) (s : Step) (f : T → Answer) where
+module _ {T : Type 0} (old new : Hub) (s : Step) (f : T → Answer) (remain : RoomsRemain old new) where
   pub steps-turn : (res : Result T HubRefusal) → ((w : World) → StandsFor old w → MatchResult res (λ v. Turns new w s (f v)) (λ r. Fails new w s r)) → Steps (AtMost 1 s) old new
-  steps-turn (Ok v) h = steps-by old new s (λ w st. inr (h w st).0)
-  steps-turn (Err r) h = steps-by old new s (λ w st. elim (h w st) [ inl t ↦ inl t.1 | inr t ↦ inr t.0 ])
+  steps-turn (Ok v) h = steps-by old new s remain (λ w st. inr (h w st).0)
+  steps-turn (Err r) h = steps-by old new s remain (λ w st. elim (h w st) [ inl t ↦ inl t.1 | inr t ↦ inr t.0 ])
 
   pub steps-same : (res : Result T HubRefusal) → ((w : World) → StandsFor old w → MatchResult res (λ v. Turns new w s (f v)) (λ r. FailsSame new w s r)) → Steps (AtMost 1 s) old new
-  steps-same (Ok v) h = steps-by old new s (λ w st. inr (h w st).0)
-  steps-same (Err r) h = steps-by old new s (λ w st. elim (h w st) [ inl t ↦ inl t.1 | inr t ↦ inr t.0 ])
+  steps-same (Ok v) h = steps-by old new s remain (λ w st. inr (h w st).0)
+  steps-same (Err r) h = steps-by old new s remain (λ w st. elim (h w st) [ inl t ↦ inl t.1 | inr t ↦ inr t.0 ])
 
   pub steps-gone : (res : Result T HubRefusal) → ((w : World) → StandsFor old w → MatchResult res (λ v. Turns new w s (f v)) (λ r. FailsGone new w s r)) → Steps (AtMost 1 s) old new
-  steps-gone (Ok v) h = steps-by old new s (λ w st. inr (h w st).0)
-  steps-gone (Err r) h = steps-by old new s (λ w st. elim (h w st) [ inl t ↦ inr t.1 | inr t ↦ inr t.0 ])
+  steps-gone (Ok v) h = steps-by old new s remain (λ w st. inr (h w st).0)
+  steps-gone (Err r) h = steps-by old new s remain (λ w st. elim (h w st) [ inl t ↦ inr t.1 | inr t ↦ inr t.0 ])
 
 -- connections that are the same stay live
 pub stay-same : (old new : Hub) → SameConnections old.connections new.connections → StayLive old.connections new.connections

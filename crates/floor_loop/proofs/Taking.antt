@@ -1,8 +1,8 @@
 -- A parcel that is taken from the hub goes behind the rest, and what the socket takes is its front.
-use Rattle.std.proofs.Common.{◌≡◌, ◌≢◌, ◌⊎◌, inl, inr, ℕ, zero, suc, ◌+◌, ◌-◌, ◌≤◌, Bool, true, false, List, [], ◌∷◌, ◌++◌, length, take, drop, map, refl, sym, ◌∙◌, ap, subst, arith, append_assoc, append-nil, Some, None}
-use Rattle.std.specs.Prelude.{Option, Result, Ok, IsSome, ◌&&◌, ◌||◌, not, nat_eq, slice_get, slice_set, MatchOption}
+use Rattle.std.proofs.Common.{◌≡◌, ◌≢◌, ◌⊎◌, inl, inr, ℕ, zero, suc, ◌+◌, ◌-◌, ◌≤◌, Bool, true, false, List, [], ◌∷◌, ◌++◌, length, take, drop, map, refl, sym, ◌∙◌, ap, subst, arith, append_assoc, append-nil, length-append, Some, None}
+use Rattle.std.specs.Prelude.{Option, Result, Ok, IsSome, ◌&&◌, ◌||◌, not, nat_eq, nat_le, slice_get, slice_set, MatchOption}
 use Rattle.std.specs.Option.{option_map_or}
-use Rattle.std.proofs.lemmas.Bool.Decides.{eqb_tells}
+use Rattle.std.proofs.lemmas.Bool.Decides.{eqb_tells, leb_tells}
 use Rattle.std.proofs.lemmas.Option.{none-some}
 use Rattle.floor_config.specs.Configuration.{Configuration}
 use Rattle.floor_machine.specs.declared.event.Event.{Event}
@@ -10,7 +10,7 @@ use Rattle.std.specs.List.{concat}
 use Rattle.std.proofs.lemmas.List.{take-append-drop}
 use Rattle.floor_machine.specs.Conference.{opening, is_cut as machine_is_cut}
 use Rattle.floor_room.specs.Ledger.{Ledger, conference_of}
-use Rattle.floor_machine.specs.Journal.{parcel, told_from}
+use Rattle.floor_machine.specs.Journal.{Q, parcel, told_from}
 use Rattle.floor_machine.specs.Outgoing.{outgoing_bytes, Outgoing as Message}
 use Rattle.floor_machine.specs.Parcel.{Parcel}
 use Rattle.floor_room.specs.declared.outbox.NoMember.{NoMember}
@@ -26,12 +26,12 @@ use Rattle.floor_hub.specs.Rooms.{TakenEach, TookEach, bytes_in, taken_of}
 use Rattle.floor_hub.specs.StandsFor.{ArrivalStands, NumberStands, StandsFor, live_at}
 use Rattle.floor_hub.specs.World.{Arrival, Place, World, place}
 use Rattle.floor_loop.specs.Loop.{Loop, Outgoing, outgoing_at, parcels_at, rest_at, until_of}
-use Rattle.floor_loop.specs.Written.{Attends, Follow, IsOnItsWay, IsOver, IsServing, IsTimed, Took, TookNothing, acknowledged, acknowledged_by, called_for, taken_bytes, written}
+use Rattle.floor_loop.specs.Written.{Attends, Follow, IsOnItsWay, IsOver, IsServing, IsTimed, Took, TookNothing, acknowledged, acknowledged_by, called_for, kept_for, taken_bytes, written}
 use Rattle.floor_loop.specs.steps.Moved.{IsLoop}
 use Rattle.floor_loop.specs.steps.Changed.{left_of}
-use Rattle.floor_loop.proofs.Moving.{way-of}
+use Rattle.floor_loop.proofs.Moving.{kept-front, parcels-more, take-more, way-of}
 use Rattle.floor_loop.proofs.Over.{each-ledger}
-use Rattle.floor_loop.proofs.Front.{before, called-is, grown, shortened, takes-next}
+use Rattle.floor_loop.proofs.Front.{before, called-is, grown, shortened, taken-stay, takes-next}
 
 some_is : {A : Type 0} (x y : A) → ◌≡◌ {A = Option A} (Some x) (Some y) → x ≡ y
 some_is x y e = cc
@@ -139,13 +139,19 @@ same-taken r s n config journal taken =
     let called : called_for s n ≡ called_for r n = ap (λ (c : Configuration). parcels_to c s.ledger.journal n) config ∙ ap (λ (es : List Event). parcels_to r.ledger.config es n) journal in
     (called, ap (λ (k : ℕ). bytes_of (take k (called_for s n))) taken ∙ ap (λ (z : List Parcel). bytes_of (take (taken_of r n) z)) called)
 
-way-same : (r s : Room) (n : ℕ) (rest : List ℕ) (parcels : ℕ) → s.ledger.config ≡ r.ledger.config → s.ledger.journal ≡ r.ledger.journal → taken_of s n ≡ taken_of r n → IsOnItsWay r n rest parcels →
+-- and in what is kept
+same-kept : (r s : Room) (n : ℕ) → s.ledger.config ≡ r.ledger.config → s.ledger.journal ≡ r.ledger.journal → s.kept ≡ r.kept → kept_for s n ≡ kept_for r n
+same-kept r s n config journal kept =
+    ap (λ (c : Configuration). parcels_to c (take s.kept s.ledger.journal) n) config ∙ ap (λ (es : List Event). parcels_to r.ledger.config (take s.kept es) n) journal
+    ∙ ap (λ (k : ℕ). parcels_to r.ledger.config (take k r.ledger.journal) n) kept
+
+way-same : (r s : Room) (n : ℕ) (rest : List ℕ) (parcels : ℕ) → s.ledger.config ≡ r.ledger.config → s.ledger.journal ≡ r.ledger.journal → s.kept ≡ r.kept → taken_of s n ≡ taken_of r n → IsOnItsWay r n rest parcels →
     IsOnItsWay s n rest parcels × (written s n rest ≡ written r n rest) × (acknowledged s n parcels ≡ acknowledged r n parcels)
-way-same r s n rest parcels config journal taken h =
+way-same r s n rest parcels config journal kept taken h =
     let t = same-taken r s n config journal taken in
     let acknowledged_same : acknowledged s n parcels ≡ acknowledged r n parcels = ap (λ (k : ℕ). k - parcels) taken in (
       record {
-        within = subst (λ (k : ℕ). k ≤ length (called_for s n)) (sym taken) (subst (λ (z : List Parcel). taken_of r n ≤ length z) (sym t.0) h.within);
+        within = subst (λ (k : ℕ). k ≤ length (kept_for s n)) (sym taken) (subst (λ (z : List Parcel). taken_of r n ≤ length z) (sym (same-kept r s n config journal kept)) h.within);
         sent = h.sent;
         all = t.1 ∙ h.all;
         fewer = subst (λ (k : ℕ). parcels ≤ k) (sym taken) h.fewer;
@@ -163,17 +169,38 @@ abbrev pub count_in : Option Parcel → ℕ
 count_in None = 0
 count_in (Some p) = 1
 
+le-of : (a b : ℕ) → nat_le a b ≡ true → a ≤ b
+le-of a b h = elim (leb_tells a b) [ inl w ↦ w.1 | inr w ↦ absurd (not_both (sym w.0 ∙ h)) ]
+
+-- something is handed out only where all that was told is kept
+gave-kept : (b : Bool) (os ps : List Outbox) (n : ℕ) (p : Parcel) → GivesIf b os ps n (Ok (Some p)) → b ≡ true
+gave-kept true os ps n p h = refl
+gave-kept false os ps n p h = absurd (none (outbox_of os n) h.0)
+  where
+    none : (z : Option Outbox) → MatchOption z (false ≡ true) (λ o. ◌≡◌ {A = Result (Option Parcel) NoMember} (Ok (Some p)) (Ok None)) → ⊥
+    none None g = cc
+    none (Some o) g = cc
+
+-- and then the events that are kept call for as much as all do
+all-kept : (r : Room) (n k : ℕ) → is_kept r ≡ true → IsRoom r → k ≤ length (called_for r n) → k ≤ length (kept_for r n)
+all-kept r n k told room within =
+    let le : r.told ≤ r.kept = le-of r.told r.kept told in
+    let t = take-more r.told r.kept r.ledger.journal le in
+    let m = parcels-more r.ledger.config (take r.told r.ledger.journal) t.0 n in
+    let kept : kept_for r n ≡ parcels_to r.ledger.config (take r.told r.ledger.journal) n ++ m.0 = ap (λ (es : List Event). parcels_to r.ledger.config es n) t.1 ∙ m.1 in
+    omega (arith, within, ap length (room.quiet n), ap length kept, length-append (parcels_to r.ledger.config (take r.told r.ledger.journal) n) m.0)
+
 -- a parcel was taken for n from this room, if one waited, and put behind the rest
-pub way-taken : (r s : Room) (n : ℕ) (rest : List ℕ) (parcels : ℕ) (parcel : Option Parcel) → s.ledger.config ≡ r.ledger.config → s.ledger.journal ≡ r.ledger.journal → GivesIf (is_kept r) r.outboxes s.outboxes n (Ok parcel) → IsRoom r → IsOnItsWay r n rest parcels →
+pub way-taken : (r s : Room) (n : ℕ) (rest : List ℕ) (parcels : ℕ) (parcel : Option Parcel) → s.ledger.config ≡ r.ledger.config → s.ledger.journal ≡ r.ledger.journal → s.kept ≡ r.kept → GivesIf (is_kept r) r.outboxes s.outboxes n (Ok parcel) → IsRoom r → IsOnItsWay r n rest parcels →
     IsOnItsWay s n (rest ++ bytes_in parcel) (parcels + count_in parcel) × (written s n (rest ++ bytes_in parcel) ≡ written r n rest) × (acknowledged s n (parcels + count_in parcel) ≡ acknowledged r n parcels)
-way-taken r s n rest parcels None config journal gave kept h =
+way-taken r s n rest parcels None config journal count_same gave kept h =
     let same : s.outboxes ≡ r.outboxes = gave-none (is_kept r) r.outboxes s.outboxes n gave in
     let taken : taken_of s n ≡ taken_of r n = ap (λ (os : List Outbox). option_map_or (λ o. o.taken) (outbox_of os n) 0) same in
-    let t = way-same r s n rest parcels config journal taken h in
+    let t = way-same r s n rest parcels config journal count_same taken h in
     let count : parcels ≡ parcels + 0 = omega arith in
     subst (λ (k : ℕ). IsOnItsWay s n (rest ++ []) k × (written s n (rest ++ []) ≡ written r n rest) × (acknowledged s n k ≡ acknowledged r n parcels)) count
     (subst (λ (z : List ℕ). IsOnItsWay s n z parcels × (written s n z ≡ written r n rest) × (acknowledged s n parcels ≡ acknowledged r n parcels)) (sym (append-nil rest)) t)
-way-taken r s n rest parcels (Some p) config journal gave kept h =
+way-taken r s n rest parcels (Some p) config journal count_same gave kept h =
     let g = gave-some (is_kept r) r.outboxes s.outboxes n p gave in
     let sent = sent-of r n g.0 kept g.2 in
     let was : taken_of r n ≡ g.0.taken = ap (λ (z : Option Outbox). option_map_or (λ o. o.taken) z 0) g.2 in
@@ -189,7 +216,8 @@ way-taken r s n rest parcels (Some p) config journal gave kept h =
     let fewer : parcels ≤ taken_of r n = h.fewer in
     let behind : acknowledged s n (parcels + 1) ≡ acknowledged r n parcels = omega (arith, now) in (
       record {
-        within = subst (λ (k : ℕ). k ≤ length (called_for s n)) (sym now) (subst (λ (z : List Parcel). taken_of r n + 1 ≤ length z) (sym called) next.1);
+        within = subst (λ (k : ℕ). k ≤ length (kept_for s n)) (sym now)
+            (subst (λ (z : List Parcel). taken_of r n + 1 ≤ length z) (sym (same-kept r s n config journal count_same)) (all-kept r n (taken_of r n + 1) (gave-kept (is_kept r) r.outboxes s.outboxes n p gave) kept next.1));
         sent = h.sent;
         all = t.0;
         fewer = omega (arith, now, fewer);
@@ -213,7 +241,7 @@ way-each r s n rest parcels [] e h =
 way-each r s n rest parcels (p ∷ ps) h way =
     let mid : Room = h.0 in
     let ledger : mid.ledger ≡ r.ledger = ap (λ (z : Room). z.ledger) h.2.same in
-    let t = way-taken r mid n rest parcels (Some p) (ap (λ (z : Ledger). z.config) ledger) (ap (λ (z : Ledger). z.journal) ledger) h.2.given h.1 way in
+    let t = way-taken r mid n rest parcels (Some p) (ap (λ (z : Ledger). z.config) ledger) (ap (λ (z : Ledger). z.journal) ledger) (ap (λ (z : Room). z.kept) h.2.same) h.2.given h.1 way in
     let u = way-each mid s n (rest ++ p.bytes) (parcels + 1) ps h.3 t.0 in
     let count : parcels + 1 + length ps ≡ parcels + suc (length ps) = omega arith in
     let bytes : (rest ++ p.bytes) ++ bytes_of ps ≡ rest ++ (p.bytes ++ bytes_of ps) = append_assoc rest p.bytes (bytes_of ps) in (
@@ -223,13 +251,13 @@ way-each r s n rest parcels (p ∷ ps) h way =
     )
 
 -- another member of the room is left
-pub way-beside : (r s : Room) (n m : ℕ) (rest : List ℕ) (parcels : ℕ) (parcel : Option Parcel) → m ≢ n → s.ledger.config ≡ r.ledger.config → s.ledger.journal ≡ r.ledger.journal → GivesIf (is_kept r) r.outboxes s.outboxes n (Ok parcel) →
+pub way-beside : (r s : Room) (n m : ℕ) (rest : List ℕ) (parcels : ℕ) (parcel : Option Parcel) → m ≢ n → s.ledger.config ≡ r.ledger.config → s.ledger.journal ≡ r.ledger.journal → s.kept ≡ r.kept → GivesIf (is_kept r) r.outboxes s.outboxes n (Ok parcel) →
     IsOnItsWay r m rest parcels → IsOnItsWay s m rest parcels × (written s m rest ≡ written r m rest) × (acknowledged s m parcels ≡ acknowledged r m parcels)
-way-beside r s n m rest parcels None ne config journal gave h =
-    way-same r s m rest parcels config journal (ap (λ (os : List Outbox). option_map_or (λ o. o.taken) (outbox_of os m) 0) (gave-none (is_kept r) r.outboxes s.outboxes n gave)) h
-way-beside r s n m rest parcels (Some p) ne config journal gave h =
+way-beside r s n m rest parcels None ne config journal kept gave h =
+    way-same r s m rest parcels config journal kept (ap (λ (os : List Outbox). option_map_or (λ o. o.taken) (outbox_of os m) 0) (gave-none (is_kept r) r.outboxes s.outboxes n gave)) h
+way-beside r s n m rest parcels (Some p) ne config journal kept gave h =
     let g = gave-some (is_kept r) r.outboxes s.outboxes n p gave in
-    way-same r s m rest parcels config journal
+    way-same r s m rest parcels config journal kept
     (ap (λ (os : List Outbox). option_map_or (λ o. o.taken) (outbox_of os m) 0) g.4 ∙ ap (λ (z : Option Outbox). option_map_or (λ o. o.taken) z 0) (outbox-other r.outboxes n m (after_take g.0 g.1) ne)) h
 
 pub beside-each : (r s : Room) (n m : ℕ) (rest : List ℕ) (parcels : ℕ) (ps : List Parcel) → m ≢ n → TookEach r s n ps →
@@ -239,7 +267,7 @@ beside-each r s n m rest parcels [] ne e h =
 beside-each r s n m rest parcels (p ∷ ps) ne h way =
     let mid : Room = h.0 in
     let ledger : mid.ledger ≡ r.ledger = ap (λ (z : Room). z.ledger) h.2.same in
-    let t = way-beside r mid n m rest parcels (Some p) ne (ap (λ (z : Ledger). z.config) ledger) (ap (λ (z : Ledger). z.journal) ledger) h.2.given way in
+    let t = way-beside r mid n m rest parcels (Some p) ne (ap (λ (z : Ledger). z.config) ledger) (ap (λ (z : Ledger). z.journal) ledger) (ap (λ (z : Room). z.kept) h.2.same) h.2.given way in
     let u = beside-each mid s n m rest parcels ps ne h.3 t.0 in
     (u.0, u.1 ∙ t.1, u.2 ∙ t.2)
 
@@ -501,15 +529,28 @@ called-bytes n (m ∷ ms) = ap (λ (z : List ℕ). outgoing_bytes m ++ z) (calle
 -- the first of the rest follow what the socket took
 pub follows : (r : Room) (n : ℕ) (rest : List ℕ) (parcels count : ℕ) → IsOnItsWay r n rest parcels → Follow r n rest (take count rest)
 follows r n rest parcels count h =
-    let parts = called-is (called_for r n) (taken_of r n) h.sent rest h.all in
-    let left : List ℕ = bytes_of (drop (taken_of r n) (called_for r n)) in
-    let front : List ℕ = written r n rest in
+    let all = parts r.ledger.journal h.all in
+    let m = kept-front r n in
+    let taken : bytes_of (take (taken_of r n) (kept_for r n)) ≡ taken_bytes r n = sym (taken-stay (kept_for r n) (called_for r n) m.0 (taken_of r n) m.1 h.within) in
+    let kept = parts (take r.kept r.ledger.journal) (taken ∙ h.all) in
     record {
-      more = drop count rest ++ left;
-      called =
-          sym (called-bytes n (told_from (opening r.ledger.config) r.ledger.journal n)) ∙ parts ∙ ap (λ (z : List ℕ). front ++ z ++ left) (sym (take-append-drop count rest))
-          ∙ again front (take count rest) (drop count rest) left;
+      more = drop count rest ++ left r.ledger.journal;
+      called = all;
+      later = drop count rest ++ left (take r.kept r.ledger.journal);
+      kept = kept ∙ ap (λ (z : List ℕ). before z rest ++ take count rest ++ (drop count rest ++ left (take r.kept r.ledger.journal))) taken;
     }
   where
     again : (a b c d : List ℕ) → a ++ (b ++ c) ++ d ≡ a ++ b ++ (c ++ d)
     again a b c d = simp append_assoc
+
+    -- the bytes of the first parcels that some events call for, and of the others
+    first : List Event → List ℕ
+    first es = bytes_of (take (taken_of r n) (parcels_to r.ledger.config es n))
+
+    left : List Event → List ℕ
+    left es = bytes_of (drop (taken_of r n) (parcels_to r.ledger.config es n))
+
+    parts : (es : List Event) → first es ≡ h.sent ++ rest → Q r.ledger.config es n ≡ before (first es) rest ++ take count rest ++ (drop count rest ++ left es)
+    parts es e =
+        sym (called-bytes n (told_from (opening r.ledger.config) es n)) ∙ called-is (parcels_to r.ledger.config es n) (taken_of r n) h.sent rest e
+        ∙ ap (λ (z : List ℕ). before (first es) rest ++ z ++ left es) (sym (take-append-drop count rest)) ∙ again (before (first es) rest) (take count rest) (drop count rest) (left es)

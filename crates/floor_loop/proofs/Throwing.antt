@@ -25,7 +25,7 @@ use Rattle.floor_loop.specs.steps.Moved.{FewerStays, IsLoop, Moved, WasLive, loo
 use Rattle.floor_loop.specs.steps.Taken.{TakenFor}
 use Rattle.floor_loop.specs.steps.Thrown.{Thrown}
 use Rattle.floor_loop.proofs.Calls.{moved-kept, moved-taken}
-use Rattle.floor_loop.proofs.Moving.{loop-moves, none-then, steps-both, steps-none, steps-of, took-both, took-then}
+use Rattle.floor_loop.proofs.Moving.{loop-moves, none-then, remain-refl, steps-both, steps-none, steps-of, took-both, took-then}
 use Rattle.floor_loop.proofs.Sparing.{ends-found, ledgers-both, ledgers-same, ledgers-taken, spares-behind}
 use Rattle.floor_loop.proofs.Stepping.{alone-both, alone-refl, keeps-refl, some-out}
 use Rattle.floor_loop.proofs.Taking.{apart, beside-waits, over-by}
@@ -53,7 +53,7 @@ ready-found f number a b next same k p is = by (eqb_tells number k)
 -- what is on its way to the connection is thrown away
 pub thrown-wrote : (hub : Hub) (a b : Attended) (number count : ℕ) → b.outgoing ≡ changed (wrote_of count) number a.outgoing → FewerStays a b → Thrown number (loop_of hub a) (loop_of hub b)
 thrown-wrote hub a b number count next few = record {
-  steps = steps-none NoSteps hub hub refl (λ w st. st);
+  steps = steps-none NoSteps hub hub refl (remain-refl hub) (λ w st. st);
   connections = λ k. refl;
   loop = λ l. (wrote hub a b number count next few l).loop;
   others = λ l. (wrote hub a b number count next few l).others;

@@ -1,5 +1,6 @@
 -- What a call of a loop has done: steps of its hub.
 use Rattle.std.specs.Prelude.{◌≡◌, ◌≤◌, ◌<◌, ℕ, List, [], ◌∷◌, ◌++◌, length, map, Bool, true, false, Option, Some, None}
+use Rattle.floor_machine.specs.declared.event.Event.{Event}
 use Rattle.floor_machine.specs.declared.event.Event.TheVariants.{Message}
 use Rattle.floor_room.specs.Room.{Room}
 use Rattle.floor_hub.specs.declared.connection.Connection.{Connection}
@@ -12,15 +13,31 @@ use Rattle.floor_hub.specs.StandsFor.{StandsFor}
 use Rattle.floor_hub.specs.World.{World}
 use Rattle.floor_loop.specs.Loop.{HoldsNoMessage}
 
--- Such steps lead from this world to one that the hub stands for now.
-pub record Goes (Are : List Step → Type 0) (new : Hub) (w : World) : Type 0 where
+-- Of a room as many events are kept as were, and its journal has grown at its end, if it has changed.
+pub record Remains (old new : Room) : Type 0 where
+  pub kept : new.kept ≡ old.kept
+  pub config : new.ledger.config ≡ old.ledger.config
+  pub more : List Event
+  pub journal : new.ledger.journal ≡ old.ledger.journal ++ more
+
+-- so each room that there was
+abbrev pub RoomsRemain : Hub → Hub → Type 0
+RoomsRemain old new = (c : ℕ) (r : Room) → room_at old c ≡ Some r → (s : Room) × (room_at new c ≡ Some s) × Remains r s
+
+-- Such steps lead from this world to one that the hub stands for now, and each room remains.
+pub record Goes (Are : List Step → Type 0) (old new : Hub) (w : World) : Type 0 where
   pub steps : List Step
   pub are : Are steps
   pub stands : StandsFor new (run w steps)
+  pub remain : RoomsRemain old new
 
 -- so from each world that it stood for
 abbrev pub Steps : (List Step → Type 0) → Hub → Hub → Type 0
-Steps Are old new = (w : World) → StandsFor old w → Goes Are new w
+Steps Are old new = (w : World) → StandsFor old w → Goes Are old new w
+
+-- no step was done: the hub stands for what it stood for
+abbrev pub StandsStill : Hub → Hub → Type 0
+StandsStill old new = (w : World) → StandsFor old w → StandsFor new w
 
 -- each is this one
 abbrev pub Each : Step → List Step → Type 0

@@ -17,7 +17,11 @@ use Rattle.floor_loop.specs.Loop.{Loop, Outgoing, outgoing_at, until_of}
 abbrev pub called_for : Room → ℕ → List Parcel
 called_for r n = parcels_to r.ledger.config r.ledger.journal n
 
--- the bytes of those parcels that were taken from the room, as many as its outbox for n counts
+-- those that the first events call for, as many as are kept
+abbrev pub kept_for : Room → ℕ → List Parcel
+kept_for r n = parcels_to r.ledger.config (take r.kept r.ledger.journal) n
+
+-- the bytes of the parcels that were taken from the room, as many as its outbox for n counts
 abbrev pub taken_bytes : Room → ℕ → List ℕ
 taken_bytes r n = bytes_of (take (taken_of r n) (called_for r n))
 
@@ -29,10 +33,10 @@ written r n rest = take (length (taken_bytes r n) - length rest) (taken_bytes r 
 abbrev pub acknowledged : Room → ℕ → ℕ → ℕ
 acknowledged r n parcels = taken_of r n - parcels
 
--- No more parcels were taken from the room than its journal calls for, the rest is the end of their bytes, and of those that were acknowledged all
--- bytes were written.
+-- No more parcels were taken from the room than the events that are kept call for, the rest is the end of their bytes, and of those that were
+-- acknowledged all bytes were written.
 pub record IsOnItsWay (r : Room) (n : ℕ) (rest : List ℕ) (parcels : ℕ) : Type 0 where
-  pub within : taken_of r n ≤ length (called_for r n)
+  pub within : taken_of r n ≤ length (kept_for r n)
   pub sent : List ℕ
   pub all : taken_bytes r n ≡ sent ++ rest
   pub fewer : parcels ≤ taken_of r n
@@ -61,10 +65,13 @@ abbrev pub IsTimed : Loop → Type 0
 IsTimed l = (number : ℕ) (x : Connection) (r : Room) (o : Outgoing) → connection_at l.hub.connections number ≡ Some x → room_at l.hub x.conference ≡ Some r → outgoing_at l number ≡ Some o →
     IsOver r x.n → IsSome (until_of o)
 
--- These bytes follow, in what the room's floor machine alone calls for at n, what the socket took.
+-- These bytes follow, in what the room's floor machine alone calls for at n, what the socket took; and so they do in what it calls for by the events
+-- that are kept.
 pub record Follow (r : Room) (n : ℕ) (rest bytes : List ℕ) : Type 0 where
   pub more : List ℕ
   pub called : Q r.ledger.config r.ledger.journal n ≡ written r n rest ++ bytes ++ more
+  pub later : List ℕ
+  pub kept : Q r.ledger.config (take r.kept r.ledger.journal) n ≡ written r n rest ++ bytes ++ later
 
 -- The socket of a connection that was live and stays so has taken these bytes besides, and so many of the parcels to it were acknowledged.
 abbrev pub Took : Loop → Loop → ℕ → List ℕ → ℕ → Type 0

@@ -164,6 +164,29 @@ impl Attended {
         Ok(())
     }
 
+    /// The same, where it is to be shut down as it was. After an error nothing has changed.
+    pub(crate) fn put_away(
+        &mut self,
+        number: ConnNo,
+        user: u16,
+        grace: u64,
+    ) -> Result<(), AllocError>
+        ensures away { OnOk result (stay_of self.new.away number
+            ≡ Some (stay_from user self.old.time grace)) }
+        ensures others { (k : ℕ) → nat_eq number k ≡ false
+            → stay_of self.new.away k ≡ stay_of self.old.away k }
+        ensures left { OnErr result (self.new.away ≡ self.old.away) }
+        ensures outgoing { self.new.outgoing ≡ self.old.outgoing }
+        ensures time { self.new.time ≡ self.old.time }
+    {
+        let stay = Stay {
+            user,
+            since: self.time,
+            until: self.time.saturating_add(grace),
+        };
+        self.away.put(number, stay)
+    }
+
     /// How long the member of a connection stays that is lost.
     pub(crate) fn lost_for(&self) -> u64
         ensures value { result ≡ self.now.away.grace.lost }

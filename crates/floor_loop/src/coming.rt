@@ -139,6 +139,21 @@ fn keep_for(attended: &mut Attended, number: ConnNo, user: u16, millis: u64) -> 
     }
 }
 
+/// A connection to which nothing more is told is away until now: its member leaves next, and is to be shut down still.
+pub(crate) fn keep_over(hub: &Hub, attended: &mut Attended, number: ConnNo) -> Lost
+    ensures outgoing { attended.new.outgoing ≡ attended.old.outgoing }
+    ensures own { IsLoop (loop_of hub.now attended.old)
+        → StaysAreOwn (loop_of hub.now attended.new) }
+{
+    match user_at(hub, number) {
+        Some(user) => match attended.put_away(number, user, 0) {
+            Ok(_) => Lost::Stays,
+            Err(_) => Lost::Memory,
+        },
+        None => Lost::Leaves,
+    }
+}
+
 /// Whether the member stays.
 pub(crate) fn is_away(lost: Lost) -> bool
     ensures value { result ≡ is_away lost }

@@ -9,8 +9,8 @@ ghost use Rattle.floor_loop.specs.steps.Moved.{IsLoop, loop_of};
 ghost use Rattle.floor_loop.specs.steps.Replayed.{HasJournal};
 
 use crate::attended::Attended;
-use crate::coming::{MAX_LIVE, keep, send_off};
-use crate::same::continues;
+use crate::coming::{MAX_LIVE, keep, keep_over, send_off};
+use crate::same::are_same;
 use crate::stay::Lost;
 use crate::turn::{attach, is_over, read_turn, throw_away, wake};
 use floor_hub::{Act, Config, ConnNo, Event, Hub, HubRefusal, Said};
@@ -85,12 +85,12 @@ fn replay_whole(
     }
 }
 
-/// Whether the conference's journal has these events, and behind them members that left.
+/// Whether the conference's journal has these events.
 fn has_journal(hub: &Hub, conference: u32, events: &[Event]) -> bool
     ensures found { IsTrue result → HasJournal hub.now conference events.now }
 {
     match hub.journal(conference) {
-        Ok(journal) => continues(journal, events),
+        Ok(journal) => are_same(journal, events),
         Err(_refusal) => false,
     }
 }
@@ -432,37 +432,36 @@ fn number_at(hub: &Hub, conference: u32, place: u32) -> Option<ConnNo> {
     }
 }
 
-/// Each live connection of a conference is away, but that whoever has no grace leaves.
-fn keep_all(hub: &mut Hub, attended: &mut Attended, conference: u32) -> Result<(), Fault>
+/// Each live connection of a conference is away.
+fn keep_all(hub: &Hub, attended: &mut Attended, conference: u32) -> Result<(), Fault>
     ensures carries { Carries conference
-        (loop_of hub.old attended.old) (loop_of hub.new attended.new) }
+        (loop_of hub.now attended.old) (loop_of hub.now attended.new) }
 {
-    let mut place = 0u32;
-    for _turn in 0..MAX_LIVE {
-        match number_at(hub, conference, place) {
-            Some(number) => {
-                if keep_one(hub, attended, number)? {
-                    place = place.saturating_add(1);
-                }
-            }
-            None => return Ok(()),
-        }
+    let live = match hub.members(conference) {
+        Ok(live) => live,
+        Err(_) => return Ok(()),
+    };
+    for one in live {
+        keep_one(hub, attended, one.number)?;
     }
     Ok(())
 }
 
-/// A connection is away, or leaves where it has no grace; says whether it is away.
-fn keep_one(hub: &mut Hub, attended: &mut Attended, number: ConnNo) -> Result<bool, Fault>
+/// A connection is away: for as long as the grace says, and until now where nothing more is told to it.
+fn keep_one(hub: &Hub, attended: &mut Attended, number: ConnNo) -> Result<(), Fault>
     ensures carries { (c : ℕ) → Carries c
-        (loop_of hub.old attended.old) (loop_of hub.new attended.new) }
+        (loop_of hub.now attended.old) (loop_of hub.now attended.new) }
 {
     if is_over(hub, number) {
-        send_off(hub, attended, number);
-        return Ok(false);
+        return outcome_of(keep_over(hub, attended, number));
     }
     let millis = attended.away().grace().resumed;
-    match keep(hub, attended, number, millis) {
-        Lost::Stays => Ok(true),
+    outcome_of(keep(hub, attended, number, millis))
+}
+
+fn outcome_of(lost: Lost) -> Result<(), Fault> {
+    match lost {
+        Lost::Stays => Ok(()),
         Lost::Leaves | Lost::Memory => Err(Fault::Memory),
     }
 }

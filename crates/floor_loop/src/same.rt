@@ -1,25 +1,12 @@
-//! Whether a journal has gone on from another: its events, one by one, and behind them members that left.
+//! Whether two journals are the same, event by event.
 
-ghost use Rattle.std.specs.Prelude.{◌≡◌, All, IsTrue};
-ghost use Rattle.floor_loop.specs.Resumed.{Continues, IsLeave};
+ghost use Rattle.std.specs.Prelude.{◌≡◌, IsTrue};
 
 use floor_config::Text;
 use floor_hub::{Event, User};
 
-/// Whether a journal begins with these events, and has nothing behind them but members that left.
-pub(crate) fn continues(journal: &[Event], events: &[Event]) -> bool
-    ensures value { IsTrue result → Continues events.now journal.now }
-{
-    let count = events.len();
-    if journal.len() < count {
-        return false;
-    }
-    let (front, rest) = journal.split_at(count);
-    are_same(front, events) && are_leaves(rest)
-}
-
 /// Whether both are the same events, in the same order.
-fn are_same(journal: &[Event], events: &[Event]) -> bool
+pub(crate) fn are_same(journal: &[Event], events: &[Event]) -> bool
     ensures value { IsTrue result → journal.now ≡ events.now }
 {
     if journal.len() != events.len() {
@@ -31,45 +18,6 @@ fn are_same(journal: &[Event], events: &[Event]) -> bool
         }
     }
     true
-}
-
-/// Whether by each of these a member leaves.
-fn are_leaves(events: &[Event]) -> bool
-    ensures value { IsTrue result → All IsLeave events.now }
-{
-    for event in events {
-        if !is_leave(event) {
-            return false;
-        }
-    }
-    true
-}
-
-/// Whether a member leaves by it.
-fn is_leave(event: &Event) -> bool
-    ensures value { IsTrue result → IsLeave event.now }
-{
-    match event {
-        Event::Leave { n: _n } => true,
-        Event::Join { user: _user } => false,
-        Event::Message {
-            n: _n,
-            frame: _frame,
-        } => false,
-        Event::Took { n: _n, k: _k } => false,
-        Event::Revoke { request: _request } => false,
-        Event::Close => false,
-        Event::AddUser { user: _user } => false,
-        Event::AddFloor { floor: _floor } => false,
-        Event::SetChair {
-            floor: _floor,
-            chair: _chair,
-        } => false,
-        Event::Say {
-            user: _user,
-            frame: _frame,
-        } => false,
-    }
 }
 
 /// Whether both are the same event.

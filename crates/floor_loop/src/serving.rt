@@ -14,7 +14,7 @@ ghost use Rattle.floor_room.specs.Standing.{backlog_of, config_of, shown_of};
 ghost use Rattle.floor_room.specs.Status.{IsStatus};
 ghost use Rattle.floor_loop.specs.Laws.{IsNew};
 ghost use Rattle.floor_loop.specs.Loop.{HasFailed, IsEnded, IsFilled, outgoing_at, over_at, parcels_at, ready_at, rest_at, stay_at, until_at};
-ghost use Rattle.floor_loop.specs.Done.{AtMost, Each, Hands, NoSteps, Reads, Returns, Serves, Steps};
+ghost use Rattle.floor_loop.specs.Done.{AtMost, Each, Hands, NoSteps, Reads, Returns, Serves, StandsStill, Steps};
 ghost use Rattle.floor_loop.specs.Returned.{IsKeptPlace, IsRefusedAs, Returned, StaysAreOwn};
 ghost use Rattle.floor_loop.specs.Written.{Acknowledges, Follow, IsOver, IsServing, IsSparedOrOver, Spares, Took, TookNothing, Wakes, acknowledged_by};
 ghost use Rattle.floor_loop.specs.steps.Moved.{IsLoop, loop_of};
@@ -145,7 +145,7 @@ impl Loop {
     /// Gives the memory of a conference back that has ended and of which no connection is live, as the hub
     /// does.
     pub fn forget(&mut self, conference: u32) -> Result<(), HubRefusal>
-        ensures steps { Steps NoSteps self.old.hub self.new.hub }
+        ensures stands { StandsStill self.old.hub self.new.hub }
         ensures took { TookNothing self.old self.new }
         ensures forgot { OnOk result (Forgets conference self.old.hub self.new.hub) }
         ensures refused { IfErr result (IsRemembered conference self.old.hub) }

@@ -1,5 +1,5 @@
 -- How a loop moves on from call to call.
-use Rattle.std.specs.Prelude.{◌≡◌, ◌⊎◌, ℕ, List, ◌++◌, true, Option, Some, None, IsSome, option_and_then}
+use Rattle.std.specs.Prelude.{◌≡◌, ◌⊎◌, ℕ, List, ◌++◌, true, Option, Some, None, IsSome, option_and_then, take}
 use Rattle.std.specs.List.{Contains}
 use Rattle.floor_machine.specs.declared.event.Event.{Event}
 use Rattle.floor_room.specs.Room.{Room}
@@ -53,11 +53,13 @@ pub record Moved (Are : List Step → Type 0) (old new : Loop) : Type 0 where
   pub over : OverStays old.hub new.hub
   pub gathered : Gathers old.hub new.hub
 
--- the journal of a room has grown, if it has changed, nothing was taken, and what is broken off stays so
+-- the journal of a room has grown, if it has changed, and so have those of its events that are kept; nothing was taken, and what is broken off stays so
 pub record Grows (r s : Room) : Type 0 where
   pub config : s.ledger.config ≡ r.ledger.config
   pub more : List Event
   pub journal : s.ledger.journal ≡ r.ledger.journal ++ more
+  pub later : List Event
+  pub kept : take s.kept s.ledger.journal ≡ take r.kept r.ledger.journal ++ later
   pub taken : (n : ℕ) → taken_of s n ≡ taken_of r n
   pub broken : r.ledger.is_broken ≡ true → s.ledger.is_broken ≡ true
 

@@ -176,8 +176,8 @@ impl Loop {
     }
 
     /// Opens a conference from its configuration, and does its journal's own steps; nobody is told of them. Its journal has
-    /// these events then, and each live member is away, and stays for as long as the loop's grace says from now on; one that
-    /// is cut has left.
+    /// these events then, and each live member is away, and stays for as long as the loop's grace says from now on; one to
+    /// which nothing more is told stays until now, so that `due` gives it.
     ///
     /// Refused by `NotOpened`, and nothing has changed, as `open` is; then by `NotAJournal` with the place of the
     /// first event that isn't taken, or that of the last where the journal isn't these events all the same, and `Memory` with

@@ -5,7 +5,7 @@ ghost use Rattle.floor_hub.specs.Gathers.{Gathers};
 ghost use Rattle.floor_hub.specs.Hub.{is_forgotten, room_at};
 ghost use Rattle.floor_hub.specs.Rooms.{KeepsIn, SameHub, all_so_far, all_to_come, forgotten_or_none, so_many};
 ghost use Rattle.floor_room.specs.Room.{Room, is_kept};
-ghost use Rattle.floor_loop.specs.Done.{NoSteps, Steps};
+ghost use Rattle.floor_loop.specs.Done.{StandsStill};
 ghost use Rattle.floor_loop.specs.Loop.{AreHandedOut};
 ghost use Rattle.floor_loop.specs.Written.{Spares, TookNothing};
 
@@ -23,7 +23,7 @@ impl Loop {
         ensures refused { IfErr result (λ refusal. (room_at self.old.hub conference ≡ None)
             × (refusal ≡ forgotten_or_none (is_forgotten self.old.hub conference))) }
         ensures left { OnErr result (SameHub self.old.hub self.new.hub) }
-        ensures steps { Steps NoSteps self.old.hub self.new.hub }
+        ensures stands { StandsStill self.old.hub self.new.hub }
         ensures took { TookNothing self.old self.new }
         ensures ready { AreHandedOut conference self.new }
         ensures spares { Spares self.old self.new }
@@ -42,7 +42,7 @@ impl Loop {
         ensures refused { IfErr result (λ refusal. (room_at self.old.hub conference ≡ None)
             × (refusal ≡ forgotten_or_none (is_forgotten self.old.hub conference))) }
         ensures left { OnErr result (SameHub self.old.hub self.new.hub) }
-        ensures steps { Steps NoSteps self.old.hub self.new.hub }
+        ensures stands { StandsStill self.old.hub self.new.hub }
         ensures took { TookNothing self.old self.new }
         ensures ready { AreHandedOut conference self.new }
         ensures spares { Spares self.old self.new }
@@ -61,12 +61,14 @@ impl Loop {
         ensures refused { IfErr result (λ refusal. (room_at self.old.hub conference ≡ None)
             × (refusal ≡ forgotten_or_none (is_forgotten self.old.hub conference))) }
         ensures left { OnErr result (SameHub self.old.hub self.new.hub) }
-        ensures steps { Steps NoSteps self.old.hub self.new.hub }
+        ensures stands { StandsStill self.old.hub self.new.hub }
         ensures took { TookNothing self.old self.new }
         ensures ready { AreHandedOut conference self.new }
         ensures spares { Spares self.old self.new }
         ensures gathered { Gathers self.old.hub self.new.hub }
     {
+        // What its contract says of the room is handed out.
+        let _journal = self.hub.journal(conference);
         let done = self.hub.end_keeping(conference);
         wake_handed(&self.hub, &mut self.attended, conference);
         done

@@ -13,10 +13,10 @@ returns-in-Err c = record {
 }
 
 pub returns-in-Ok-keep_all : goal.returns-in-Ok-keep_all
-returns-in-Ok-keep_all c = record { carries = carries-both c.args.conference (loop_of c.args.hub.now c.args.attended.now) (loop_of c.loop-event.hub c.loop-event.attended) (loop_of c.keep_all.new.hub c.keep_all.new.attended) c.loop-event.invariant c.keep_all.ensures.carries }
+returns-in-Ok-keep_all c = record { carries = carries-both c.args.conference (loop_of c.args.hub.now c.args.attended.now) (loop_of c.loop-event.hub c.loop-event.attended) (loop_of c.loop-event.hub c.keep_all.new.attended) c.loop-event.invariant c.keep_all.ensures.carries }
 
 pub returns : goal.returns
-returns c = record { carries = carries-both c.args.conference (loop_of c.args.hub.now c.args.attended.now) (loop_of c.loop-event.hub c.loop-event.attended) (loop_of c.keep_all.new.hub c.keep_all.new.attended) c.loop-event.invariant c.keep_all.ensures.carries }
+returns c = record { carries = carries-both c.args.conference (loop_of c.args.hub.now c.args.attended.now) (loop_of c.loop-event.hub c.loop-event.attended) (loop_of c.loop-event.hub c.keep_all.new.attended) c.loop-event.invariant c.keep_all.ensures.carries }
 
 pub loop-event-init : goal.loop-event-init
 loop-event-init c = carries-same c.args.conference (loop_of c.args.hub.now c.args.attended.now)

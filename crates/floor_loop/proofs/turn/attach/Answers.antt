@@ -1,5 +1,5 @@
 use Rattle.floor_hub.specs.Gathers.{Gathers}
-use Rattle.std.proofs.Common.{Some, inl, inr, ap, refl, subst, sym, ◌∙◌}
+use Rattle.std.proofs.Common.{Some, inl, inr, ap, arith, refl, subst, sym, ◌∙◌}
 use Rattle.std.specs.Prelude.{option_and_then}
 use Rattle.floor_hub.specs.Hub.{Hub}
 use Rattle.floor_loop.specs.Loop.{Attended, Outgoing, outgoing_in}
@@ -12,7 +12,11 @@ use Rattle.floor_loop.proofs.Sparing.{come-spared, come-stay, spared-beside, spa
 use Rattle.floor_loop.proofs.Waking.{spared-both}
 use Rattle.floor_loop.proofs.Watching.{gathers-refl}
 use Rattle.floor_loop.proofs.Stepping.{keeps-both, keeps-passed, stays-kept, wakes-on, woken-on}
-use Rattle.floor_loop.proofs.Moving.{fewer}
+use Rattle.floor_hub.specs.declared.step.Step.TheVariants.{Attach}
+use Rattle.floor_hub.specs.Hub.{Hub}
+use Rattle.floor_hub.specs.StandsFor.{StandsFor}
+use Rattle.floor_loop.specs.Done.{AtMost}
+use Rattle.floor_loop.proofs.Moving.{fewer, remain-equal, steps-none}
 use Rattle.floor_loop.proofs.turn.attach.Goals as goal
 
 pub returns-in-Err-clause-moved : goal.returns-in-Err-clause-moved
@@ -132,3 +136,9 @@ pub returns-in-Err-joined-clause-gathered : goal.returns-in-Err-joined-clause-ga
 returns-in-Err-joined-clause-gathered c =
     let t = subst (Attaches c.args.conference c.args.user c.args.hub.now c.attach.new.hub) c.in-Err-joined.is c.in-Ok.ensures.attached in
     t.gathered
+
+pub returns-in-Err-clause-steps : goal.returns-in-Err-clause-steps
+returns-in-Err-clause-steps c =
+    let same = c.in-Err.ensures.left.0 in
+    steps-none (AtMost 1 (Attach c.args.conference c.args.user)) c.args.hub.now c.attach.new.hub (omega arith, tt) (remain-equal c.args.hub.now c.attach.new.hub same)
+    (λ w st. subst (λ (h : Hub). StandsFor h w) (sym same) st)

@@ -41,7 +41,7 @@ returns c =
     record {
       moved = moved-both (AtMost 1 (Piece c.args.number c.args.bytes.now)) (AtMost c.args.turns (Serve c.args.number)) old mid new first c.serve_turn.ensures.moved;
       handed = on-ok (Steps (Hands c.args.number c.args.bytes.now c.args.turns) c.args.hub.now c.serve_turn.new.hub) c.serve_turn.result
-          (handed c.args.number c.args.turns c.args.bytes.now c.args.hub.now c.piece.new.self c.serve_turn.new.hub c.piece.result tt c.in-Ok.is c.piece.ensures.next c.serve_turn.ensures.moved.steps);
+          (handed c.args.number c.args.turns c.args.bytes.now c.args.hub.now c.piece.new.self c.serve_turn.new.hub c.piece.result tt c.in-Ok.is c.piece.ensures.next c.piece.ensures.rooms c.serve_turn.ensures.moved.steps);
       woke = λ l.
           let m = loop-moves (AtMost 1 (Piece c.args.number c.args.bytes.now)) old mid first l in
           wakes-both (AtMost 1 (Piece c.args.number c.args.bytes.now)) (AtMost c.args.turns (Serve c.args.number)) old mid new first c.serve_turn.ensures.moved m.serving

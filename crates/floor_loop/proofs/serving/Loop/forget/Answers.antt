@@ -1,14 +1,13 @@
-use Rattle.std.proofs.Common.{◌≡◌, refl, ap, subst}
+use Rattle.std.proofs.Common.{◌≡◌, ap, subst}
 use Rattle.std.specs.Prelude.{Err, IfErr, Ok, OnErr, OnOk, Result}
 use Rattle.floor_hub.specs.declared.refusal.HubRefusal.{HubRefusal}
 use Rattle.floor_hub.specs.Hub.{Hub}
 use Rattle.floor_hub.specs.Rooms.{Forgets, IsRemembered}
-use Rattle.floor_loop.specs.Done.{NoSteps, Steps}
+use Rattle.floor_loop.specs.Done.{StandsStill}
 use Rattle.floor_loop.specs.Loop.{Loop}
 use Rattle.floor_loop.specs.Written.{TookNothing}
 use Rattle.floor_loop.specs.steps.Moved.{loop_of}
 use Rattle.floor_loop.proofs.Forgetting.{Stays, loop-stays, stays}
-use Rattle.floor_loop.proofs.Moving.{steps-none}
 use Rattle.floor_loop.proofs.serving.Loop.forget.Goals as goal
 
 abbrev old : goal.After-forget → Loop
@@ -23,8 +22,8 @@ still c = stays c.args.conference c.self.inside.hub c.forget.new.self c.self.ins
 pub invariant_of-self : goal.invariant_of-self
 invariant_of-self c = loop-stays (old c) (new c) (still c) c.forget.ensures.stands c.self.invariant
 
-pub returns-clause-steps : goal.returns-clause-steps
-returns-clause-steps c = subst (λ (l : Loop). Steps NoSteps l.hub (new c).hub) c.self.view_is (steps-none NoSteps (old c).hub (new c).hub refl c.forget.ensures.stands)
+pub returns-clause-stands : goal.returns-clause-stands
+returns-clause-stands c = subst (λ (l : Loop). StandsStill l.hub (new c).hub) c.self.view_is c.forget.ensures.stands
 
 pub returns-clause-took : goal.returns-clause-took
 returns-clause-took c = subst (λ (l : Loop). TookNothing l (new c)) c.self.view_is (still c).took

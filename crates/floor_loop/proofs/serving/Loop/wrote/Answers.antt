@@ -1,13 +1,13 @@
 use Rattle.floor_hub.specs.Gathers.{Gathers}
-use Rattle.std.proofs.Common.{◌≡◌, ℕ, [], ap, drop, refl, subst, sym, ◌∙◌}
+use Rattle.std.proofs.Common.{◌≡◌, ℕ, [], ap, arith, drop, refl, subst, sym, ◌∙◌}
 use Rattle.std.specs.Prelude.{option_and_then, take}
 use Rattle.floor_hub.specs.declared.step.Step.TheVariants.{Took as Takes}
-use Rattle.floor_loop.specs.Done.{AtMost}
+use Rattle.floor_loop.specs.Done.{AtMost, Steps}
 use Rattle.floor_loop.specs.Loop.{Attended, Loop, Outgoing, outgoing_in, parcels_at, rest_at}
 use Rattle.floor_loop.specs.Written.{Acknowledges, Spares, Took}
 use Rattle.floor_loop.specs.steps.Changed.{changed, whole_of, wrote_of}
 use Rattle.floor_loop.specs.steps.Moved.{loop_of}
-use Rattle.floor_loop.proofs.Moving.{fewer, loop-moves, took-then}
+use Rattle.floor_loop.proofs.Moving.{fewer, loop-moves, remain-refl, steps-none, took-then}
 use Rattle.floor_loop.proofs.Sparing.{ends-changed, ends-found, none-whole, spares-behind, spares-same}
 use Rattle.floor_loop.proofs.Taking.{acked_at}
 use Rattle.floor_loop.proofs.Watching.{gathers-refl}
@@ -116,3 +116,8 @@ returns-in-Some-clause-gathered c = subst (λ (l : Loop). Gathers l.hub (new c).
 
 pub returns-in-None-clause-gathered : goal.returns-in-None-clause-gathered
 returns-in-None-clause-gathered c = subst (λ (l : Loop). Gathers l.hub c.self.inside.hub) c.self.view_is (gathers-refl c.self.inside.hub)
+
+pub returns-in-None-clause-steps : goal.returns-in-None-clause-steps
+returns-in-None-clause-steps c =
+    subst (λ (l : Loop). Steps (AtMost 1 (Takes c.args.number (parcels_at l c.args.number))) l.hub c.self.inside.hub) c.self.view_is
+    (steps-none (AtMost 1 (Takes c.args.number (parcels_at (loop_of c.self.inside.hub c.self.inside.attended) c.args.number))) c.self.inside.hub c.self.inside.hub (omega arith, tt) (remain-refl c.self.inside.hub) (λ w st. st))
