@@ -31,7 +31,7 @@ each_weaker may more w [] e = e
 each_weaker may more w (x ∷ xs) e = (w x e.0, each_weaker may more w xs e.1)
 
 -- nothing was done
-stays_at : (may : Step → Bool) (o : Option Caller) → GoesOnAt may o o
+pub stays_at : (may : Step → Bool) (o : Option Caller) → GoesOnAt may o o
 stays_at may None = refl
 stays_at may (Some c) = (c, refl, record { steps = []; run = refl; each = tt; number = refl })
 
@@ -47,7 +47,7 @@ goes_on_then may c d e f g = record {
   number = g.number ∙ f.number;
 }
 
-then_at : (may : Step → Bool) (o p q : Option Caller) → GoesOnAt may o p → GoesOnAt may p q → GoesOnAt may o q
+pub then_at : (may : Step → Bool) (o p q : Option Caller) → GoesOnAt may o p → GoesOnAt may p q → GoesOnAt may o q
 then_at may None p q f g = subst (λ (x : Option Caller). GoesOnAt may x q) f g
 then_at may (Some c) p q f g =
     let h = subst (λ (x : Option Caller). GoesOnAt may x q) f.1 g in

@@ -3,3 +3,4 @@ pub mod Clients
 pub mod Callers
 pub mod Answering
 pub mod Attending
+pub mod Stopping

@@ -1,8 +1,12 @@
 //! The requests about the server itself.
 #![tactic(auto, using(crate::proofs::Attended::attends_same, crate::proofs::Attended::attends_then))]
 
-ghost use Rattle.std.specs.Prelude.{◌≡◌};
+ghost use Rattle.std.specs.Prelude.{◌≡◌, Ok};
 ghost use Rattle.floor_desk.specs.Attending.{Attends, beside};
+ghost use Rattle.floor_desk.specs.Stopping.{draining, stopping, stopping_at_last};
+ghost use Rattle.floor_desk.specs.declared.caller.Done.TheVariants as done;
+ghost use Rattle.floor_desk.specs.declared.caller.Task.TheVariants as task;
+ghost use Rattle.floor_rpc.specs.declared.answer.Answer.TheVariants as answers;
 
 use crate::caller::{Done, Task};
 use crate::desk::{Desk, Wanted};
@@ -37,6 +41,8 @@ pub fn standing_now(desk: &Desk, members: usize, memory: u64) -> Result<Done, Re
 
 /// `server.drain`: no conference is opened any more. Where none is open the server is to stop.
 pub fn drain(desk: &mut Desk) -> Result<Answer, Refused>
+    ensures value { result ≡ Ok answers.Done }
+    ensures next { desk.new ≡ draining desk.old }
     ensures attends { Attends beside desk.old.callers desk.new.callers }
 {
     desk.is_draining = true;
@@ -46,6 +52,7 @@ pub fn drain(desk: &mut Desk) -> Result<Answer, Refused>
 
 /// Where no conference is opened any more, and none is open, the server is to stop.
 pub(crate) fn see_to_last(desk: &mut Desk)
+    ensures next { desk.new ≡ stopping_at_last desk.old }
     ensures callers { desk.new.callers ≡ desk.old.callers }
 {
     if desk.is_draining && desk.open == 0 {
@@ -55,6 +62,7 @@ pub(crate) fn see_to_last(desk: &mut Desk)
 
 /// The server is to stop.
 fn want_stop(desk: &mut Desk)
+    ensures next { desk.new ≡ stopping desk.old }
     ensures callers { desk.new.callers ≡ desk.old.callers }
 {
     if desk.stop.is_none() && !desk.has_stopped {
@@ -65,6 +73,8 @@ fn want_stop(desk: &mut Desk)
 /// `server.stop`: the server stops, once what is carried out for others is answered, a second later at most. Nothing
 /// further is begun.
 pub fn stop(desk: &mut Desk) -> Result<Done, Refused>
+    ensures value { result ≡ Ok (done.Later task.Stopping) }
+    ensures next { desk.new ≡ stopping desk.old }
     ensures attends { Attends beside desk.old.callers desk.new.callers }
 {
     want_stop(desk);
