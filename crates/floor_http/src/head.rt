@@ -1,0 +1,89 @@
+//! The head of a request.
+
+ghost use Rattle.std.specs.Prelude.{◌≡◌};
+ghost use Rattle.httparse.specs.Spans.{IsRequestAt, IsRequestWithin};
+ghost use Rattle.floor_http.specs.Heads as spec;
+
+use httparse::spans::{EMPTY_HEADER_SPAN, HeaderSpan, RequestSpans, parse_request};
+use httparse::{Error, Status};
+
+/// How many bytes a head has at most: our choice.
+pub const MAX_HEAD: usize = 8_192;
+
+/// How many fields it has at most: what asks for figures sends a tenth of it.
+const MAX_FIELDS: usize = 64;
+
+/// What is asked.
+#[derive(Clone, Copy, Debug, PartialEq, Eq)]
+pub enum Asked {
+    /// `/metrics`: the figures.
+    Metrics,
+    /// `/healthz`: whether the server lives.
+    Health,
+    /// `/readyz`: whether new meetings may be sent to it.
+    Ready,
+}
+
+/// Why nothing is asked. The first that applies is answered.
+#[derive(Clone, Copy, Debug, PartialEq, Eq)]
+pub enum Unasked {
+    /// The head has more than `MAX_HEAD` bytes, or 64 fields.
+    TooLong,
+    /// It is no head of HTTP/1.
+    Bad,
+    /// It is another method than GET.
+    NotGet,
+    /// There is nothing at its path.
+    Nothing,
+}
+
+/// What the bytes that came ask for; `None` while they are a head's beginning. What stands behind a whole head isn't looked at.
+pub fn read_head(bytes: &[u8]) -> Option<Result<Asked, Unasked>>
+    ensures value { spec.Reads bytes.now result }
+{
+    let mut spans = [EMPTY_HEADER_SPAN; MAX_FIELDS];
+    match parse_request(bytes, &mut spans) {
+        Ok(Status::Complete(found)) => Some(asked_in(bytes, &found, &spans)),
+        Ok(Status::Partial) if bytes.len() <= MAX_HEAD => None,
+        Ok(Status::Partial) => Some(Err(Unasked::TooLong)),
+        Err(Error::TooManyHeaders) => Some(Err(Unasked::TooLong)),
+        Err(_) => Some(Err(Unasked::Bad)),
+    }
+}
+
+/// What a whole head asks for.
+fn asked_in(bytes: &[u8], found: &RequestSpans, spans: &[HeaderSpan]) -> Result<Asked, Unasked>
+    requires within { IsRequestWithin bytes.now spans.now found.now }
+    ensures value { (h : _) → IsRequestAt bytes.now spans.now found.now h → result ≡ spec.asked h }
+{
+    if found.len > MAX_HEAD {
+        return Err(Unasked::TooLong);
+    }
+    asked_by(found.method.of(bytes), found.path.of(bytes))
+}
+
+/// What a method asks for at a target.
+fn asked_by(method: &[u8], target: &[u8]) -> Result<Asked, Unasked>
+    ensures value { result ≡ spec.asked_by method.now target.now }
+{
+    if method != b"GET".as_slice() {
+        return Err(Unasked::NotGet);
+    }
+    at_path(target)
+}
+
+/// What is asked at a path.
+fn at_path(path: &[u8]) -> Result<Asked, Unasked>
+    ensures value { result ≡ spec.at_path path.now }
+{
+    if path == b"/metrics".as_slice() {
+        return Ok(Asked::Metrics);
+    }
+    if path == b"/healthz".as_slice() {
+        return Ok(Asked::Health);
+    }
+    if path == b"/readyz".as_slice() {
+        return Ok(Asked::Ready);
+    }
+    Err(Unasked::Nothing)
+}
