@@ -3,9 +3,11 @@
 //! Where the system tells when one of them is ready it is read or written once then; where it doesn't, as of a file, that
 //! is always so.
 
-use floor_console::{Command, ConsoleFault};
+use floor_console::{BoardRefusal, Command, ConsoleFault};
 use floor_listen::ServerFault;
+use floor_room::{add_end, add_lines};
 use floor_server::next_command;
+use floor_service::{HubRefusal, Service};
 use floor_streams::{Found, Written, read_some, write_some};
 use mio::unix::SourceFd;
 use mio::{Interest, Registry, Token};
@@ -23,10 +25,10 @@ const MAX_WRITE: usize = 4_096;
 
 /// A journal that is told by pieces: how many of its events are told, and how many it had.
 #[derive(Clone, Copy, Debug)]
-pub struct Telling {
-    pub conference: u32,
-    pub done: usize,
-    pub count: usize,
+struct Telling {
+    conference: u32,
+    done: usize,
+    count: usize,
 }
 
 /// What an administrator's lines come from and their answers go to. A line is begun once the answer to the one before is
@@ -40,11 +42,14 @@ pub struct Console {
     lines: VecDeque<u8>,
     feeds: usize,
     has_input_ended: bool,
+    /// Whether it may end while the program serves on, for control clients, and whether it has.
+    pub may_end: bool,
+    has_ended: bool,
     /// The last answer, and how much of it is written.
     answer: String,
     written: usize,
     /// The rest of the answer.
-    pub rest: Option<Telling>,
+    rest: Option<Telling>,
 }
 
 impl Console {
@@ -58,6 +63,8 @@ impl Console {
             lines: VecDeque::new(alloc),
             feeds: 0,
             has_input_ended: false,
+            may_end: false,
+            has_ended: false,
             answer: String::new(alloc),
             written: 0,
             rest: None,
@@ -74,6 +81,10 @@ impl Console {
 
     /// Whether something can be done at once.
     pub fn is_ready(&self) -> bool {
+        !self.has_ended && self.has_work()
+    }
+
+    fn has_work(&self) -> bool {
         (self.has_input && self.may_read())
             || (self.has_output && !self.is_answered())
             || (self.is_answered() && (self.rest.is_some() || !self.may_read()))
@@ -84,13 +95,32 @@ impl Console {
     }
 
     /// Whether what there is of an answer is written.
-    pub fn is_answered(&self) -> bool {
+    fn is_answered(&self) -> bool {
         self.answer.len() <= self.written
     }
 
     /// Reads and writes, once each, where they are ready, and has the poll tell of them again. An `Err` is want of memory,
-    /// or that standard output can't be written.
+    /// or that standard output can't be written: where it may end it has then.
     pub fn serve<I: Read, O: Write>(
+        &mut self,
+        registry: &Registry,
+        input: &mut I,
+        output: &mut O,
+        buffer: &mut [u8],
+    ) -> Result<(), ServerFault> {
+        if self.has_ended {
+            return Ok(());
+        }
+        match self.serve_once(registry, input, output, buffer) {
+            Err(ServerFault::CannotWrite) if self.may_end => {
+                self.has_ended = true;
+                Ok(())
+            }
+            served => served,
+        }
+    }
+
+    fn serve_once<I: Read, O: Write>(
         &mut self,
         registry: &Registry,
         input: &mut I,
@@ -137,12 +167,16 @@ impl Console {
     }
 
     /// What the next line asks for, where one is whole and the one before is answered. The end of the input asks for a
-    /// stop.
+    /// stop, unless it may end.
     pub fn next(
         &mut self,
         alloc: Global,
     ) -> Result<Option<Result<Command, ConsoleFault>>, ServerFault> {
-        if !self.is_answered() || self.rest.is_some() || self.may_read() {
+        if self.has_ended || !self.is_answered() || self.rest.is_some() || self.may_read() {
+            return Ok(None);
+        }
+        if self.may_end && self.feeds == 0 {
+            self.has_ended = true;
             return Ok(None);
         }
         self.feeds = self.feeds.saturating_sub(1);
@@ -154,5 +188,58 @@ impl Console {
     pub fn answer(&mut self, text: String) {
         self.answer = text;
         self.written = 0;
+    }
+
+    /// The line is answered by a journal that has so many events now, by pieces, so that who asks for a long one holds
+    /// nobody up.
+    pub fn answer_journal(&mut self, conference: u32, count: usize) {
+        let done = 0;
+        self.rest = Some(Telling {
+            conference,
+            done,
+            count,
+        });
+    }
+
+    /// Answers by the next piece of a journal, where one is told and what it was answered is written.
+    pub fn tell_on(&mut self, alloc: Global, server: &Service) -> Result<(), AllocError> {
+        match self.rest {
+            Some(rest) if self.is_answered() => self.tell_next(alloc, server, rest),
+            _ => Ok(()),
+        }
+    }
+
+    fn tell_next(
+        &mut self,
+        alloc: Global,
+        server: &Service,
+        rest: Telling,
+    ) -> Result<(), AllocError> {
+        let events = server.hub().journal(rest.conference).unwrap_or(&[]);
+        let events = events.get(..rest.count).unwrap_or(events);
+        let mut text = String::new(alloc);
+        let added = add_lines(alloc, &mut text, events, rest.done)?;
+        let done = rest.done.saturating_add(added);
+        self.rest = Some(Telling { done, ..rest });
+        if added == 0 {
+            add_end(alloc, &mut text, done)?;
+            self.rest = None;
+        }
+        self.answer(text);
+        Ok(())
+    }
+}
+
+/// What a line is answered where the value refuses what it asks for.
+pub fn refused_by(refusal: HubRefusal) -> BoardRefusal {
+    match refusal {
+        HubRefusal::Used => BoardRefusal::Used,
+        HubRefusal::Memory => BoardRefusal::Memory,
+        HubRefusal::ByRoom(refusal) => BoardRefusal::ByRoom(refusal),
+        HubRefusal::NoConference
+        | HubRefusal::NoConnection
+        | HubRefusal::BadMessage
+        | HubRefusal::Forgotten
+        | HubRefusal::Running => BoardRefusal::NoConference,
     }
 }

@@ -64,8 +64,8 @@ pub fn done_by(alloc: Global, act: &Act) -> Result<Option<String>, AllocError> {
     Ok(Some(told))
 }
 
-/// The port of a place, 0 where it has none.
-pub fn port_of(place: Place) -> u16 {
+/// The port of a place; 0 of the sockets of control clients.
+fn port_of(place: Place) -> u16 {
     match place {
         Place::Port { port, .. } | Place::Door { port, .. } | Place::Health { port } => port,
         Place::Control | Place::Observe => 0,
