@@ -6,3 +6,5 @@ pub mod Owned
 pub mod Epochs
 pub mod Listing
 pub mod Disk
+pub mod Growing
+pub mod Joining

@@ -1,5 +1,5 @@
 -- What waits for the files of kept conferences, as one value.
-use Rattle.std.specs.Prelude.{◌≡◌, ◌<◌, ◌⊎◌, ℕ, Bool, false, true, if◌then◌else◌, max, Option, None, Some, List, []}
+use Rattle.std.specs.Prelude.{◌≡◌, ◌<◌, ◌⊎◌, ℕ, Bool, false, true, if◌then◌else◌, max, nat_lt, Option, None, Some, List, []}
 use Rattle.floor_keep.specs.declared.fault.KeepFault.TheVariants as fault
 use Rattle.floor_keeping.specs.Deeds.{reads_epoch}
 use Rattle.floor_keeping.specs.Epochs as epoch
@@ -26,6 +26,16 @@ file_at files = file_in files.table
 abbrev pub kept_of : Option KeptFile → Option ℕ
 kept_of None = None
 kept_of (Some f) = Some f.state.kept
+
+-- how many were put to its file
+abbrev pub put_of : Option KeptFile → Option ℕ
+put_of None = None
+put_of (Some f) = Some f.state.events
+
+-- fewer are kept than were given to be appended
+abbrev pub is_behind_of : Option KeptFile → Bool
+is_behind_of None = false
+is_behind_of (Some f) = nat_lt f.state.kept f.state.sent
 
 -- what is lent, to be written or appended
 abbrev pub lent_of : Option KeptFile → List ℕ

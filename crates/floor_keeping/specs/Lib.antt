@@ -10,5 +10,7 @@ pub mod Runs
 pub mod Read
 pub mod Calls
 pub mod Laws
+pub mod Growing
+pub mod Joined
 -- the steps of the proofs
 pub mod steps

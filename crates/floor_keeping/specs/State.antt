@@ -156,6 +156,10 @@ is_something asked.Empty = true
 is_something asked.Report = true
 is_something asked.End = true
 
+-- an answer is awaited of it
+abbrev pub is_awaited : State → Bool
+is_awaited s = is_something s.asked || is_some s.synced
+
 -- behind the asking
 abbrev pub asking : Asked → State → State
 asking asked.Nothing s = s

@@ -3,7 +3,7 @@ use Rattle.std.specs.Prelude.{◌≡◌, ◌<◌, ◌≤◌, ℕ, Bool, true, fa
 use Rattle.std.specs.Map.{lookup}
 use Rattle.floor_keeping.specs.Deeds.{deed_of}
 use Rattle.floor_keeping.specs.Kept.{KeptFile, ask, asked_of}
-use Rattle.floor_keeping.specs.State.{is_open, is_something}
+use Rattle.floor_keeping.specs.State.{is_awaited, is_open, is_something}
 use Rattle.floor_keeping.specs.declared.deed.Deed.{Deed}
 use Rattle.floor_keeping.specs.declared.policy.Policy.{Policy}
 use Rattle.floor_keeping.specs.declared.state.Asked.{Asked}
@@ -74,6 +74,10 @@ Asks p now old new d = (c : ℕ) × AsksOf p now old new c d
 -- of no file is anything to be asked
 abbrev pub NothingAsked : Policy → ℕ → (ℕ → Option KeptFile) → Type 0
 NothingAsked p now files = (c : ℕ) (f : KeptFile) → files c ≡ Some f → is_something (asked_of p now f) ≡ false
+
+-- of no file is an answer awaited
+abbrev pub NothingAwaited : (ℕ → Option KeptFile) → Type 0
+NothingAwaited files = (c : ℕ) (f : KeptFile) → files c ≡ Some f → is_awaited f.state ≡ false
 
 -- The conference's file took what was put to it: it is what this makes of it, and no other has changed.
 pub record Took (f : KeptFile → KeptFile) (events : ℕ) (old new : ℕ → Option KeptFile) (c : ℕ) : Type 0 where

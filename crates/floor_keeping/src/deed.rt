@@ -24,7 +24,8 @@ pub enum Deed {
     ReadEpoch,
     /// Look at the names of the folder's files. Answered by `found` or `not_found`.
     Find,
-    /// Read the whole file of a conference that goes on. Answered by `read` or `unread`.
+    /// Bring the file of a conference that goes on to the disk, and read the whole of it: what an earlier process appended
+    /// counts as kept then. Answered by `read` or `unread`.
     ReadFile(u32),
     /// Make a conference's file: write `text` under another name, bring it to the disk, rename it, and bring the names to
     /// the disk. Answered by `begun`.

@@ -5,10 +5,11 @@ ghost use Rattle.std.specs.Option.{option_map};
 ghost use Rattle.floor_keep.specs.Found.{IsFound, IsFoundFault};
 ghost use Rattle.floor_keeping.specs.Deeds.{conference_of, needs_epoch, reads_epoch};
 ghost use Rattle.floor_keeping.specs.Epochs as epoch;
-ghost use Rattle.floor_keeping.specs.Files.{AsksFolder, IsDone, IsDue, epoch_at, epoch_behind, file_at, kept_of, lent_of, locked_epoch, locked_folder, passed, time_at, unfound_epoch, until_at};
+ghost use Rattle.floor_keeping.specs.Files.{AsksFolder, IsDone, IsDue, epoch_at, epoch_behind, file_at, is_behind_of, kept_of, lent_of, locked_epoch, locked_folder, passed, put_of, time_at, unfound_epoch, until_at};
 ghost use Rattle.floor_keeping.specs.Folder as folder;
-ghost use Rattle.floor_keeping.specs.Kept.{begins, changed, close, put, resumes};
-ghost use Rattle.floor_keeping.specs.Table.{Asks, IsShorter, SameFiles, SameOthers, SameRest, Took, takes, until_in};
+ghost use Rattle.floor_keeping.specs.Kept.{KeptFile as Known, begins, changed, close, put, resumes};
+ghost use Rattle.floor_keeping.specs.State.{is_awaited};
+ghost use Rattle.floor_keeping.specs.Table.{Asks, IsShorter, NothingAwaited, SameFiles, SameOthers, SameRest, Took, takes, until_in};
 ghost use Rattle.floor_keeping.specs.declared.epoch.Reading.TheVariants as reading;
 ghost use Rattle.floor_keeping.specs.declared.folder.Stage.TheVariants as stage;
 ghost use Rattle.floor_keeping.specs.declared.kept.Change.TheVariants as change;
@@ -37,8 +38,9 @@ use std::marker::Model;
 /// - Deeds: `next` says what is to be done, one after another until it gives none. Each is answered by the call that
 ///   `Deed` names, at once or later; `text` lends what is to be written or appended until then. What stands between two
 ///   times that `next` gives none is a turn. Behind that it is waited, until `due` at most.
-/// - `kept` says how many events of a conference are kept; `Deed::Kept` that what they tell may be handed out.
-/// - At the end: `sync_all`, and then until `next` gives nothing and each deed was answered.
+/// - `kept` says how many events of a conference are kept; `Deed::Kept` that what they tell may be handed out. `put_events` and
+///   `is_behind` say how many were put, and whether those wait that were given to be appended.
+/// - At the end: `sync_all`, and then until `next` gives nothing and `is_awaited` says no.
 ///
 /// Whoever has a hub or a room beside it calls `begin_keeping` there with `begin` and `resume`, `keep` with what `kept` says
 /// at `Deed::Kept`, and at `Deed::Over` `end_keeping`; or where the policy says so breaks a conference off that wasn't
@@ -103,6 +105,36 @@ impl Files {
             Some(file) => Some(file.state().kept),
             None => None,
         }
+    }
+
+    /// How many events of a conference were put to its file; `None` where it has none.
+    pub fn put_events(&self, conference: u32) -> Option<usize>
+        ensures value { result ≡ put_of (file_at self.now conference) }
+    {
+        match self.table.get(conference) {
+            Some(file) => Some(file.state().events),
+            None => None,
+        }
+    }
+
+    /// Whether fewer events of a conference are kept than were given to be appended: they wait for the file, or for the
+    /// disk.
+    pub fn is_behind(&self, conference: u32) -> bool
+        ensures value { result ≡ is_behind_of (file_at self.now conference) }
+    {
+        match self.table.get(conference) {
+            Some(file) => file.state().kept < file.state().sent,
+            None => false,
+        }
+    }
+
+    /// Whether an answer is awaited of any conference's file.
+    pub fn is_awaited(&self) -> bool
+        ensures nothing { result ≡ false → NothingAwaited (file_at self.now) }
+        ensures found { result ≡ true → (c : ℕ) × (f : Known) × (file_at self.now c ≡ Some f)
+            × (is_awaited f.state ≡ true) }
+    {
+        self.table.is_awaited()
     }
 
     /// Whether more may be put to the file of a conference: it has one, which hasn't failed, and wasn't closed.

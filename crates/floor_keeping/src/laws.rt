@@ -1,5 +1,6 @@
 //! What the calls come to over whole runs. Each law is the contract of a function that does nothing.
 
+ghost use Rattle.floor_keeping.specs.Growing.{WhatIsKeptStaysKept};
 ghost use Rattle.floor_keeping.specs.Laws.{EachFileIsItsOwn, NoTurnGoesBeforeItsEpoch, WhatIsKeptIsWritten, WhatWasPutIsKept};
 ghost use Rattle.floor_keeping.specs.Read.{WhatIsKeptIsRead};
 
@@ -37,4 +38,10 @@ pub fn what_was_put_is_kept()
 /// was read since it gave none last, and was the folder's own.
 pub fn no_turn_goes_before_its_epoch()
     ensures law { NoTurnGoesBeforeItsEpoch }
+{}
+
+/// For any list of calls, each of which did what its contract says, of files that are in order, as each is that was begun or
+/// goes on: they are in order behind them, and none that isn't begun by them counts fewer events as kept.
+pub fn what_is_kept_stays_kept()
+    ensures law { WhatIsKeptStaysKept }
 {}

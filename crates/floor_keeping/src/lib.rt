@@ -32,7 +32,7 @@ pub use floor_kept::Entry;
 pub use floor_machine::Event;
 pub use laws::{
     each_file_is_its_own, no_turn_goes_before_its_epoch, what_is_kept_is_read,
-    what_is_kept_is_written, what_was_put_is_kept,
+    what_is_kept_is_written, what_is_kept_stays_kept, what_was_put_is_kept,
 };
 pub use policy::{Outcome, Policy, SYNC_MICROS};
 pub use refusal::{BeginRefusal, PutRefusal};

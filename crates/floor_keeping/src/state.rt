@@ -167,6 +167,13 @@ impl State {
         }
     }
 
+    /// Whether an answer is awaited of it.
+    pub(crate) fn is_awaited(self) -> bool
+        ensures value { result ≡ spec.is_awaited self }
+    {
+        self.asked.is_something() || self.synced.is_some()
+    }
+
     /// Behind the asking.
     pub(crate) fn asking(self, asked: Asked) -> State
         ensures value { result ≡ spec.asking asked self }

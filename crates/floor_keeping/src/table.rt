@@ -1,10 +1,11 @@
 //! The files of kept conferences, and of which anything is to be asked.
 
-ghost use Rattle.std.specs.Prelude.{◌≡◌, ◌↔◌, Err, IfNone, IfSome, None, OnErr, OnOk, Some, [], false, is_some, length, max, option_copied, true};
+ghost use Rattle.std.specs.Prelude.{◌≡◌, ◌↔◌, ℕ, Err, IfNone, IfSome, None, OnErr, OnOk, Some, [], false, is_some, length, max, option_copied, true};
 ghost use Rattle.std.specs.Option.{option_map};
 ghost use Rattle.floor_keeping.specs.Deeds.{conference_of, reads_epoch};
-ghost use Rattle.floor_keeping.specs.Kept.{changed, close, put};
-ghost use Rattle.floor_keeping.specs.Table.{Asks, IsShorter, IsSoonest, NothingAsked, SameFiles, SameOthers, SameRest, Took, file_in, sync_until, takes, until_in};
+ghost use Rattle.floor_keeping.specs.Kept.{KeptFile as Known, changed, close, put};
+ghost use Rattle.floor_keeping.specs.State.{is_awaited};
+ghost use Rattle.floor_keeping.specs.Table.{Asks, IsShorter, IsSoonest, NothingAsked, NothingAwaited, SameFiles, SameOthers, SameRest, Took, file_in, sync_until, takes, until_in};
 ghost use Rattle.floor_keeping.specs.declared.refusal.BeginRefusal.TheVariants as begin;
 ghost use Rattle.floor_keeping.specs.declared.refusal.PutRefusal.TheVariants as putting;
 
@@ -14,7 +15,8 @@ use crate::line::Line;
 use crate::policy::Policy;
 use crate::refusal::{BeginRefusal, PutRefusal};
 use crate::turn::{
-    change_in, close_in, put_in, soonest_in, stand_in, sync_time, turn_in, wake_in, wake_later,
+    change_in, close_in, find_awaited, put_in, soonest_in, stand_in, sync_time, turn_in, wake_in,
+    wake_later,
 };
 use floor_kept::Entry;
 use floor_machine::Event;
@@ -78,6 +80,15 @@ impl Table {
         ensures value { option_copied result ≡ file_in self.now conference }
     {
         self.files.get(&conference)
+    }
+
+    /// Whether an answer is awaited of any file.
+    pub(crate) fn is_awaited(&self) -> bool
+        ensures nothing { result ≡ false → NothingAwaited (file_in self.now) }
+        ensures found { result ≡ true → (c : ℕ) × (f : Known) × (file_in self.now c ≡ Some f)
+            × (is_awaited f.state ≡ true) }
+    {
+        find_awaited(&self.files).is_some()
     }
 
     /// Whether nothing is to be asked of any file.

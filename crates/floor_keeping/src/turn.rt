@@ -5,8 +5,8 @@ ghost use Rattle.std.specs.Option.{option_map};
 ghost use Rattle.indexmap.specs.IndexMap.{get};
 ghost use Rattle.floor_keeping.specs.Deeds.{conference_of, reads_epoch};
 ghost use Rattle.floor_keeping.specs.Kept.{KeptFile as Known, asked_of, changed, close, put};
-ghost use Rattle.floor_keeping.specs.State.{is_something};
-ghost use Rattle.floor_keeping.specs.Table.{Asks, AsksOf, IsBy, IsShorter, NothingAsked, SameFiles, SameOthers, Took, left_by, takes};
+ghost use Rattle.floor_keeping.specs.State.{is_awaited, is_something};
+ghost use Rattle.floor_keeping.specs.Table.{Asks, AsksOf, IsBy, IsShorter, NothingAsked, NothingAwaited, SameFiles, SameOthers, Took, left_by, takes};
 ghost use Rattle.floor_keeping.specs.steps.Listed.{AllStand, AllWoken, AscendFrom, IsListed, IsWoken, Stands, Within};
 ghost use Rattle.floor_keeping.specs.declared.refusal.PutRefusal.TheVariants as putting;
 
@@ -195,6 +195,22 @@ fn find_waiting(files: &IndexMap<u32, KeptFile>, policy: Policy, now: u64) -> Op
     for index in 0..files.len() {
         if let Some((conference, file)) = files.get_index(index) {
             if file.next_asked(policy, now).is_something() {
+                return Some(*conference);
+            }
+        }
+    }
+    None
+}
+
+/// A conference of whose file an answer is awaited.
+pub(crate) fn find_awaited(files: &IndexMap<u32, KeptFile>) -> Option<u32>
+    ensures found { IfSome result (λ c. (f : Known) × (get nat_eq files.now c ≡ Some f)
+        × (is_awaited f.state ≡ true)) }
+    ensures none { IfNone result (NothingAwaited (get nat_eq files.now)) }
+{
+    for index in 0..files.len() {
+        if let Some((conference, file)) = files.get_index(index) {
+            if file.state().is_awaited() {
                 return Some(*conference);
             }
         }

@@ -52,7 +52,7 @@ pub enum Due {
 /// Conferences, and which socket is which member of them. Times are milliseconds; one that is earlier than the last
 /// counts as the last.
 ///
-/// - Conferences: `open`, `act`, `say`, `forget`; `hub` lends the loop, by which they are read. `begin_keeping`, `keep` and
+/// - Conferences: `open`, `resume`, `act`, `say`, `forget`; `hub` lends the loop, by which they are read. `begin_keeping`, `keep` and
 ///   `end_keeping` say how many of its events are kept.
 /// - A socket's life: `join`, behind `check` and `make_room`; `came` as bytes come, and `serve` while that says that more may wait;
 ///   `ended` and `failed` at the end of the stream and of the socket; `left` once the socket was shut, or `leave`.

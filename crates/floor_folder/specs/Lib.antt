@@ -1,0 +1,1 @@
+-- What a reader has to believe, in the order of reading.
