@@ -705,12 +705,12 @@ def unread(case):
 
 
 def unread_again(case):
-    """Six peers, one after another, that are cut with long answers: memory is used again.
+    """Five peers, one after another, that are cut with long answers: memory is used again.
 
-    With one arena, so that malloc keeps what was given back in one place.
+    With one arena, so that malloc keeps what was given back in one place, and gives none of it back to the system.
     """
     fulls = []
-    for _ in range(6):
+    for _ in range(5):
         clients = crowd(case)
         clients[3].sendall(message(FLOOR_QUERY, 1, 1, 13, floors(1, 2, 3, 4)) * 1500)
         case.wait_for(3, 192)
@@ -726,11 +726,11 @@ def unread_again(case):
             raise Failed('%d of 1,500 queries came' % came)
         case.events += came
         case.wait_until_back()
-    # What the first two took may have gone back to the system before it is looked at; the third's stays.
-    first = max(fulls[:3])
-    if first - case.before['VmRSS'] > 16 * MAX_WAITING or max(fulls[3:]) > 1.2 * first:
-        raise Failed('six outboxes one after another take %s kB' % fulls)
-    return '1,024 statuses of 64 requests each, six times: %s MB in all' % ', '.join(
+    # What the first took may have gone back to the system before it is looked at; the second's stays.
+    first = max(fulls[:2])
+    if first - case.before['VmRSS'] > 16 * MAX_WAITING or max(fulls[2:]) > 1.2 * first:
+        raise Failed('five outboxes one after another take %s kB' % fulls)
+    return '1,024 statuses of 64 requests each, five times: %s MB in all' % ', '.join(
         '%.0f' % (full / 1024) for full in fulls)
 
 
@@ -1513,7 +1513,8 @@ CASES = (
     (killed, {}),
     (slow, {}),
     (unread, {}),
-    (unread_again, {'variables': {'MALLOC_ARENA_MAX': '1'}}),
+    (unread_again, {'variables': {'MALLOC_ARENA_MAX': '1', 'MALLOC_MMAP_MAX_': '0',
+                                  'MALLOC_TRIM_THRESHOLD_': '1073741824'}}),
     (far_ahead, {}),
     (watchers, {}),
     (half_closed, {}),

@@ -22,7 +22,7 @@ pub enum Deed {
     Accept(usize),
     /// Read up to `MAX_READ` bytes of this socket, once. Answered by `came`, `nothing`, `ended` or `failed`.
     Read(usize),
-    /// Write what `lent` lends to this socket, once. Answered by `took`: a write that fails takes none.
+    /// Write what `lent` lends to this socket, once. Answered by `took`, or by `unwritten` where the write failed.
     Write(usize),
     /// Shut this socket down, both ways, and close it; what stands unread is read and thrown away first, so that no
     /// reset takes back what was sent. Answered by `shut`.

@@ -13,14 +13,13 @@ mod laws;
 mod meetings;
 mod members;
 mod refusal;
-mod resuming;
 #[cfg(test)]
 mod tests;
 mod turn;
 mod watching;
 
 pub use bounds::Bounds;
-pub use floor_loop::{Act, Config, ConnNo, Event, Grace, HubRefusal, Loop, ResumeRefusal, Said};
+pub use floor_loop::{Act, Config, ConnNo, Grace, HubRefusal, Loop, Said};
 pub use laws::{joins_are_their_own, one_is_written, taken_is_called_for};
 pub use meetings::{Due, Meetings, Ready};
 pub use members::Member;

@@ -52,7 +52,7 @@ pub enum Due {
 /// Conferences, and which socket is which member of them. Times are milliseconds; one that is earlier than the last
 /// counts as the last.
 ///
-/// - Conferences: `open`, `resume`, `act`, `say`, `forget`; `hub` lends the loop, by which they are read. `begin_keeping`, `keep` and
+/// - Conferences: `open`, `act`, `say`, `forget`; `hub` lends the loop, by which they are read. `begin_keeping`, `keep` and
 ///   `end_keeping` say how many of its events are kept.
 /// - A socket's life: `join`, behind `check` and `make_room`; `came` as bytes come, and `serve` while that says that more may wait;
 ///   `ended` and `failed` at the end of the stream and of the socket; `left` once the socket was shut, or `leave`.
@@ -330,6 +330,8 @@ impl Meetings {
             (λ m. Parts m.number now self.old.hub self.new.hub result) }
         ensures nobody { member_at self.old slot ≡ None → result ≡ Ok false }
         ensures free { member_at self.new slot ≡ None }
+        ensures gone { (m : Known) → member_at self.old slot ≡ Some m
+            → slot_of self.new.members m.number ≡ None }
         ensures others { (k : ℕ) → nat_eq slot k ≡ false
             → member_at self.new k ≡ member_at self.old k }
         ensures bounds { self.new.bounds ≡ self.old.bounds }
@@ -349,6 +351,8 @@ impl Meetings {
         ensures took { MatchOption (member_at self.old slot) (self.new.hub ≡ self.old.hub)
             (λ m. Leaves m.number self.old.hub self.new.hub) }
         ensures free { member_at self.new slot ≡ None }
+        ensures gone { (m : Known) → member_at self.old slot ≡ Some m
+            → slot_of self.new.members m.number ≡ None }
         ensures others { (k : ℕ) → nat_eq slot k ≡ false
             → member_at self.new k ≡ member_at self.old k }
         ensures bounds { self.new.bounds ≡ self.old.bounds }

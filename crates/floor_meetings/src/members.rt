@@ -2,6 +2,7 @@
 
 ghost use Rattle.std.specs.Prelude.{◌≡◌, ◌≤◌, ◌<◌, ℕ, None, OnErr, OnOk, Some, false, nat_eq};
 ghost use Rattle.floor_meetings.specs.Members.{IsPaired, member_in, slot_of};
+ghost use Rattle.floor_meetings.specs.declared.members.Member.{Member as Known};
 ghost use Rattle.floor_meetings.specs.steps.Placed.{HasRoom, IsGone, SameMembers};
 
 use floor_loop::ConnNo;
@@ -104,6 +105,8 @@ impl Members {
     /// Whoever is in this slot isn't any more.
     pub(crate) fn remove(&mut self, slot: usize)
         ensures gone { member_in self.new slot ≡ None }
+        ensures nowhere { (m : Known) → member_in self.old slot ≡ Some m
+            → slot_of self.new m.number ≡ None }
         ensures others { (k : ℕ) → nat_eq slot k ≡ false
             → member_in self.new k ≡ member_in self.old k }
     {

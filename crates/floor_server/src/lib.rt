@@ -32,4 +32,6 @@ pub use lines::{next_command, print, tell};
 pub use log::Log;
 pub use reason::{PortFault, Reason, configurations, read_text};
 pub use running::{ending_of_words, log_of, tell_ending};
-pub use words::{MAX_GRACE, MAX_LONGEST, MAX_LOOPS, Program, Task, Words, WordsFault, read_words};
+pub use words::{
+    MAX_GRACE, MAX_LONGEST, MAX_LOOPS, Program, Task, VERSION, Words, WordsFault, read_words,
+};

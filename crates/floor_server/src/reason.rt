@@ -64,9 +64,14 @@ impl PortFault {
         self.of_place(alloc, format!(in alloc; "port {} of {word}", door.port))
     }
 
-    /// Why the control socket isn't listened on.
-    pub fn at_control(&self, alloc: Global, path: &str) -> Reason {
-        self.of_place(alloc, format!(in alloc; "socket {path} of --control"))
+    /// Why the port isn't listened on at which is answered by HTTP.
+    pub fn at_http(&self, alloc: Global, port: u16) -> Reason {
+        self.of_place(alloc, format!(in alloc; "port {port} of --http"))
+    }
+
+    /// Why the socket isn't listened on that a word asks for.
+    pub fn at_socket(&self, alloc: Global, word: &str, path: &str) -> Reason {
+        self.of_place(alloc, format!(in alloc; "socket {path} of {word}"))
     }
 
     fn of_place(&self, alloc: Global, place: Result<String, AllocError>) -> Reason {

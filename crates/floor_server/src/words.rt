@@ -11,7 +11,7 @@ use floor_keep::{Keeping, Syncing};
 use std::alloc::{AllocError, Global};
 
 /// The version, and the logic that the programs are proved with.
-const VERSION: &str = "0.2.0 (logic dac8208d650f15bf)";
+pub const VERSION: &str = "0.2.0 (logic dac8208d650f15bf)";
 
 /// What the administrator's lines are, below the help of the words.
 const LINES: &str = "\
@@ -58,6 +58,9 @@ pub const MAX_GRACE: u64 = 600;
 /// Whom the grace is for, where that is said.
 const GRACE_FOR: &[&str] = &["all"];
 
+/// Who may open a socket's file, as its mode in octal digits: its owner, its group too, or everybody.
+const MODES: &[&str] = &["600", "660", "666"];
+
 /// When the disk is asked for what was written.
 const SYNC_NAMES: &[&str] = &["second", "turn", "never"];
 
@@ -71,6 +74,9 @@ pub struct Program {
     /// Whether it serves by event loops, so that `--loops`, `--longest`, `--door`, `--door-by-id`, `--health`,
     /// `--control`, `--grace`, `--keep` and what goes with these are of its words, and goes by `conference.connections`.
     pub by_loops: bool,
+    /// Whether control clients ask it by JSON-RPC, so that `--control-mode`, `--observe`, `--observe-mode` and `--http`
+    /// are of its words.
+    pub by_json: bool,
 }
 
 /// What the program is to do with a configuration.
@@ -100,6 +106,14 @@ pub struct Words {
     pub doors: Vec<Door>,
     /// The path of the control socket, where one is asked for.
     pub control: Option<String>,
+    /// Who may open its file, as the system's mode: its owner alone where nothing is said of that.
+    pub control_mode: u32,
+    /// The path of the socket of those that read alone, where one is asked for.
+    pub observe: Option<String>,
+    /// Who may open its file.
+    pub observe_mode: u32,
+    /// The port at which is answered by HTTP, where one is asked for.
+    pub http: Option<u16>,
     /// How many seconds a member outlives its connection, 0 to 600; 0 where nothing is said of them, or the
     /// program has no such word.
     pub grace: u64,
@@ -138,18 +152,31 @@ fn parsed(alloc: Global, words: &[String], program: &Program) -> Result<Words, E
         loops: matches.get_one::<u8>("loops"),
         longest: matches.get_one::<u32>("longest").unwrap_or(MAX_LONGEST),
         doors: doors_of(alloc, &matches)?,
-        control: control_of(alloc, &matches)?,
+        control: path_of(alloc, &matches, "control")?,
+        control_mode: mode_of(&matches, "control-mode"),
+        observe: path_of(alloc, &matches, "observe")?,
+        observe_mode: mode_of(&matches, "observe-mode"),
+        http: matches.get_one::<u16>("http"),
         grace: matches.get_one::<u64>("grace").unwrap_or(0),
         grace_for_all: matches.get_str("grace-for").is_some(),
         keep: keeping_of(alloc, &matches)?,
     })
 }
 
-/// The path of the control socket that the words ask for.
-fn control_of(alloc: Global, matches: &ArgMatches) -> Result<Option<String>, AllocError> {
-    match matches.get_str("control") {
+/// The path behind a word that asks for a socket.
+fn path_of(alloc: Global, matches: &ArgMatches, name: &str) -> Result<Option<String>, AllocError> {
+    match matches.get_str(name) {
         Some(path) => Ok(Some(String::from_str(alloc, path)?)),
         None => Ok(None),
+    }
+}
+
+/// The mode of a socket's file, by its word.
+fn mode_of(matches: &ArgMatches, name: &str) -> u32 {
+    match matches.get_str(name) {
+        Some("660") => 0o660,
+        Some("666") => 0o666,
+        _ => 0o600,
     }
 }
 
@@ -218,6 +245,11 @@ fn command<'a>(alloc: Global, program: &Program) -> Result<Command<'a>, Error> {
     let command = if program.by_loops {
         let command = command.arg(loops(alloc))?.arg(longest(alloc))?;
         let command = with_doors(alloc, command)?;
+        let command = if program.by_json {
+            with_modes(alloc, command)?
+        } else {
+            command
+        };
         with_keeping(alloc, with_grace(alloc, command)?)?
     } else {
         command
@@ -238,6 +270,40 @@ fn with_doors<'a>(alloc: Global, command: Command<'a>) -> Result<Command<'a>, Er
     );
     let command = command.arg(by_certificate)?.arg(by_id)?.arg(health)?;
     Ok(command.arg(control(alloc))?)
+}
+
+/// The words of a program that control clients ask by JSON-RPC.
+fn with_modes<'a>(alloc: Global, command: Command<'a>) -> Result<Command<'a>, Error> {
+    let http = port(alloc, "http").help(
+        "A port at which is answered by HTTP: /healthz, /readyz, and /metrics for Prometheus",
+    );
+    let observe = Arg::new(alloc, "observe")
+        .long("observe")
+        .value_name("path")
+        .action(ArgAction::Set)
+        .help("A Unix socket at which programs look at all and change nothing");
+    Ok(
+        command
+            .arg(mode(alloc, "control-mode", "control")?)?
+            .arg(observe)?
+            .arg(mode(alloc, "observe-mode", "observe")?)?
+            .arg(http)?,
+    )
+}
+
+/// Who may open the file of a socket.
+fn mode<'a>(alloc: Global, name: &'a str, of: &'a str) -> Result<Arg<'a>, Error> {
+    Ok(
+        Arg::new(alloc, name)
+            .long(name)
+            .value_name("mode")
+            .action(ArgAction::Set)
+            .value_parser(MODES)
+            .requires_arg(of)?
+            .help(
+                "Who may connect there: its owner (600), its group too (660), or everybody (666); else its owner",
+            ),
+    )
 }
 
 /// The words of a program whose members outlive their connections.
@@ -302,7 +368,7 @@ fn control<'a>(alloc: Global) -> Arg<'a> {
         .value_name("path")
         .action(ArgAction::Set)
         .help(
-            "A Unix socket at which programs administer, readable and writable by its owner alone; the end of standard input stops nothing then",
+            "A Unix socket at which programs administer, for its owner alone; the end of standard input stops nothing then",
         )
 }
 

@@ -130,7 +130,7 @@ where
         match self.listen(path) {
             Ok(()) => Ok(()),
             Err(error) => {
-                let reason = PortFault::System(error).at_control(self.alloc, path);
+                let reason = PortFault::System(error).at_socket(self.alloc, "--control", path);
                 tell(errors, reason.line);
                 Err(fault_of_opening(reason.refusal))
             }

@@ -26,6 +26,7 @@ const FLOORD: Program = Program {
     name: "floord",
     about: "Serves the floors of conferences (BFCP, RFC 8855), and reads an administrator's lines.",
     by_loops: false,
+    by_json: false,
 };
 
 /// Does what the words ask for: serves a configuration until `input` says `stop` or ends, or checks one.
@@ -98,6 +99,10 @@ where
                 longest: _,
                 doors,
                 control: _control,
+                control_mode: _control_mode,
+                observe: _observe,
+                observe_mode: _observe_mode,
+                http: _http,
                 grace: _grace,
                 grace_for_all: _grace_for_all,
                 keep: _keep,

@@ -14,7 +14,6 @@ mod laws;
 mod meeting;
 mod opening;
 mod removing;
-mod resuming;
 mod saying;
 mod server;
 mod shutting;
@@ -26,9 +25,8 @@ mod writing;
 
 pub use floor_connections::{Deed, Departure, Entry, Fault, Peer, Place, Refusal, Who};
 pub use floor_doors::{DoorRefusal, NamedBy};
-pub use floor_meetings::{
-    Act, Bounds, Config, Event, Grace, HubRefusal, JoinRefusal, Loop, Member, ResumeRefusal, Said,
-};
+pub use floor_loop::Event;
+pub use floor_meetings::{Act, Bounds, Config, Grace, HubRefusal, JoinRefusal, Loop, Member, Said};
 pub use floor_sockets::MAX_READ;
 pub use laws::{
     nothing_is_left, one_is_written, taken_is_called_for, who_fails_is_shut, who_is_ended_is_shut,

@@ -33,7 +33,7 @@ pub(crate) enum Course {
 /// and what is on its way to it, and whose turn it is.
 ///
 /// - At the start: `new`, `with_grace` or `with_grace_for_all`; `end_longer`; `door` for each door, `health` for each port of probes,
-///   `open` for each conference, or `resume` where it goes on from its journal.
+///   `open` for each conference.
 /// - While events are written down before anybody learns of them: `begin_keeping`, `hold`, `events_from`, `let_go`,
 ///   `end_keeping`.
 /// - While it runs: `open`, `port`, `act`, `say`, `remove`, `close`, `forget`; `hub` lends the loop, by which conferences are read, and

@@ -17,6 +17,7 @@ const PROGRAM: Program = Program {
     name: "floorhub",
     about: "Serves the floors of conferences (BFCP, RFC 8855) by event loops, and reads an administrator's lines.",
     by_loops: true,
+    by_json: false,
 };
 
 /// Standard input and output.

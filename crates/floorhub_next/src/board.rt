@@ -1,15 +1,14 @@
 //! What an administrator's lines are about: the conferences of the value.
 
-use crate::console::Telling;
-use crate::lines::done_by;
 use crate::shell::Shell;
 use floor_config::{Config, Floor, Text, User};
 use floor_console::{Board, BoardRefusal, StopRefusal, Stopped};
 use floor_machine::AddedUser;
-use floor_room::{Phase, Status, add_end, add_lines};
+use floor_program::{done_by, refused_by};
+use floor_room::Status;
 use floor_server::{Reason, configurations, read_text};
+use floor_service::{Words, titles_of};
 use floor_turn::{Act, HubRefusal};
-use std::alloc::AllocError;
 use std::fs;
 
 impl Shell {
@@ -19,29 +18,22 @@ impl Shell {
         let text = system.checked(read_text(&system.rt, alloc, path))?;
         let configs = system.checked(configurations(alloc, path, text.as_str()))?;
         let count = configs.len();
+        let titles = titles_of(alloc, text.as_str())?;
+        let mut titles = titles.unwrap_or(Vec::new(alloc)).into_iter();
         for config in configs {
-            self.open_one(config)?;
+            self.open_one(config, titles.next().unwrap_or(Words::new(alloc)))?;
         }
         Ok(count)
     }
 
     /// Opens a conference, once its ports are had.
-    fn open_one(&mut self, config: Config) -> Result<(), BoardRefusal> {
+    fn open_one(&mut self, config: Config, titles: Words) -> Result<(), BoardRefusal> {
         match self.server.hub().status(config.conference()) {
             Err(HubRefusal::NoConference) => {}
             _ => return Err(BoardRefusal::Used),
         }
-        let before = self.system.bound.len();
-        let opened = self.open_bound(config);
-        self.system.unbind(before, opened)
-    }
-
-    fn open_bound(&mut self, config: Config) -> Result<(), BoardRefusal> {
-        let conference = config.conference();
-        self.conferences.reserve(1)?;
         self.system.bind_all(&config)?;
-        self.server.open(config).map_err(refused_by)?;
-        self.conferences.push_reserved(conference);
+        self.server.open(config, titles).map_err(refused_by)?;
         let _is_done = self.settle();
         Ok(())
     }
@@ -75,44 +67,15 @@ impl Shell {
         }
     }
 
-    /// Has the console told the next piece of a journal, where one is told and what it was told is written.
-    pub fn tell_on(&mut self) -> Result<(), AllocError> {
-        let Some(rest) = self.console.rest else {
-            return Ok(());
-        };
-        if !self.console.is_answered() {
-            return Ok(());
-        }
-        let events = self.server.hub().journal(rest.conference).unwrap_or(&[]);
-        let events = events.get(..rest.count).unwrap_or(events);
-        let alloc = self.system.alloc;
-        let mut text = String::new(alloc);
-        let added = add_lines(alloc, &mut text, events, rest.done)?;
-        let done = rest.done.saturating_add(added);
-        self.console.rest = Some(Telling { done, ..rest });
-        if added == 0 {
-            add_end(alloc, &mut text, done)?;
-            self.console.rest = None;
-        }
-        self.console.answer(text);
-        Ok(())
-    }
-
     /// What the server had.
     pub fn report(&self) -> Result<Stopped, StopRefusal> {
-        let mut events = 0u128;
-        for conference in self.conferences.iter() {
-            if let Ok(status) = self.server.hub().status(*conference) {
-                events = events.saturating_add(u128::from(status.events));
-                if status.phase == Phase::Broken {
-                    let conference = *conference;
-                    return Err(StopRefusal::Broken { conference });
-                }
-            }
+        if let Some(conference) = self.server.broken() {
+            return Err(StopRefusal::Broken { conference });
         }
+        let totals = self.server.totals();
         Ok(Stopped {
-            seats: self.joined,
-            events,
+            seats: totals.seats as usize,
+            events: u128::from(totals.events),
         })
     }
 }
@@ -159,9 +122,7 @@ impl Board for Shell {
 
     fn add_user(&mut self, conference: u32, user: User) -> Result<(), BoardRefusal> {
         let _status = self.status(conference)?;
-        let before = self.system.bound.len();
-        let added = self.add(conference, user);
-        self.system.unbind(before, added)
+        self.add(conference, user)
     }
 
     fn add_floor(&mut self, conference: u32, floor: Floor) -> Result<(), BoardRefusal> {
@@ -184,30 +145,12 @@ impl Board for Shell {
     /// No line of it yet: the console is told it by pieces, so that whoever asks for a long one holds nobody up.
     fn journal(&mut self, conference: u32) -> Result<Text, BoardRefusal> {
         let events = self.server.hub().journal(conference).map_err(refused_by)?;
-        self.console.rest = Some(Telling {
-            conference,
-            done: 0,
-            count: events.len(),
-        });
+        self.console.answer_journal(conference, events.len());
         Ok(Text::from_string(String::new(self.system.alloc)))
     }
 
     /// It has stopped by now.
     fn stop(&mut self) -> Result<Stopped, StopRefusal> {
         self.report()
-    }
-}
-
-/// What is answered where the value refuses so.
-fn refused_by(refusal: HubRefusal) -> BoardRefusal {
-    match refusal {
-        HubRefusal::Used => BoardRefusal::Used,
-        HubRefusal::Memory => BoardRefusal::Memory,
-        HubRefusal::ByRoom(refusal) => BoardRefusal::ByRoom(refusal),
-        HubRefusal::NoConference
-        | HubRefusal::NoConnection
-        | HubRefusal::BadMessage
-        | HubRefusal::Forgotten
-        | HubRefusal::Running => BoardRefusal::NoConference,
     }
 }

@@ -1,51 +1,69 @@
 //! Deeds are done: one call of the system each, of which the value is told what it answered.
 
-use crate::lines::{port_of, text_of};
 use crate::moving::{read_once, write_once};
 use crate::shell::Shell;
 use crate::system::Handle;
-use floor_server::keep_alive;
-use floor_streams::shut_down;
-use floor_turn::{Deed, Entry, Place};
-use mio::net::TcpStream;
-use mio::{Interest, Token};
+use floor_program::text_of;
+use floor_service::{Act, Deed};
+use floor_turn::{Deed as Asked, Entry, Place};
+use std::io;
 use std::io::ErrorKind;
 
 impl Shell {
     /// Does a deed.
     pub fn do_deed(&mut self, deed: Deed) {
         match deed {
-            Deed::Listen { listener, place } => self.listen(listener, place),
-            Deed::Accept(listener) => self.accept(listener),
-            Deed::Read(socket) => self.read(socket),
-            Deed::Write(socket) => self.write(socket),
-            Deed::Shut(number) | Deed::Unlisten(number) => self.shut(number),
-            // No client connects, since no socket of theirs is listened on: so none has a turn left over.
-            Deed::Serve(socket) => self.server.client_served(socket, false),
-            Deed::Log(entry) => self.tell(entry),
-            Deed::Turn => {}
-            Deed::End(_) => self.end(),
+            Deed::Of(asked) => self.do_asked(asked),
+            Deed::Configure(number) => self.have_read(number),
+            Deed::Ports(number) => self.have_listened(number),
+            Deed::Figures => self.tell_memory(),
+            Deed::Tell(act) => self.tell_act(&act),
         }
     }
 
-    /// What the log is to be told is noted, and who has joined is counted.
+    fn do_asked(&mut self, asked: Asked) {
+        match asked {
+            Asked::Listen { listener, place } => self.listen(listener, place),
+            Asked::Accept(listener) => self.accept(listener),
+            Asked::Read(socket) => self.read(socket),
+            Asked::Write(socket) => self.write(socket),
+            Asked::Shut(number) | Asked::Unlisten(number) => self.shut(number),
+            Asked::Log(entry) => self.tell(entry),
+            // The value serves its clients.
+            Asked::Serve(_) | Asked::Turn => {}
+            Asked::End(fault) => self.end(fault.is_some()),
+        }
+    }
+
+    /// The ports under this number are to be listened on, all or none.
+    fn have_listened(&mut self, number: u64) {
+        let missing = self.system.bind_ports(self.server.ports(number));
+        self.server.had(number, missing, self.now);
+    }
+
+    /// What the log is to be told is noted, and what the figures are to tell of it is counted.
     fn tell(&mut self, entry: Entry) {
-        if let Entry::Joined { .. } = entry {
-            self.joined = self.joined.saturating_add(1);
+        match &entry {
+            Entry::Refused { refusal, .. } => self.counts.refuse(refusal.name()),
+            Entry::CannotAccept(_) => self.counts.fail_to_accept(),
+            _ => {}
         }
         if self.log.is_some() {
             self.note(text_of(self.system.alloc, entry));
         }
     }
 
+    /// What a client had done is noted for the log.
+    fn tell_act(&mut self, act: &Act) {
+        if self.log.is_some() {
+            self.note(act.text(self.system.alloc));
+        }
+    }
+
     /// Has the poll tell of who connects to a place, which is listened on by now.
     fn listen(&mut self, number: usize, place: Place) {
-        let is_listening = match self.system.take_bound(port_of(place)) {
-            Some(mut listener) => {
-                let registry = self.system.poll.registry();
-                let told = registry.register(&mut listener, Token(number), Interest::READABLE);
-                told.is_ok() && self.system.put(number, Handle::Listener(listener)).is_ok()
-            }
+        let is_listening = match self.system.take_listening(place) {
+            Some(handle) => self.system.admit(number, handle),
             None => false,
         };
         self.server.listened(number, is_listening);
@@ -53,38 +71,36 @@ impl Shell {
 
     /// Accepts one who waits at a listener.
     fn accept(&mut self, number: usize) {
-        let Some(Handle::Listener(listener)) = self.system.handles.get(number) else {
-            return self.server.nobody(number);
+        let accepted = match self.system.handles.get(number) {
+            Some(handle) => handle.accept(),
+            None => return self.server.nobody(number),
         };
-        match listener.accept() {
-            Ok((stream, address)) => self.let_in(number, stream, address.port()),
-            Err(error) => match error.kind() {
-                ErrorKind::WouldBlock => self.server.nobody(number),
-                // Who waited has gone again: another may wait.
-                ErrorKind::Interrupted | ErrorKind::ConnectionAborted => {
-                    self.server.nobody(number);
-                    self.server.knocked(number);
-                }
-                _ => self.server.unaccepted(number, self.now),
-            },
+        match accepted {
+            Ok((handle, port)) => self.let_in(number, handle, port),
+            Err(error) => self.miss(number, &error),
+        }
+    }
+
+    /// Nobody was accepted.
+    fn miss(&mut self, listener: usize, error: &io::Error) {
+        match error.kind() {
+            ErrorKind::WouldBlock => self.server.nobody(listener),
+            // Who waited has gone again: another may wait.
+            ErrorKind::Interrupted | ErrorKind::ConnectionAborted => {
+                self.server.nobody(listener);
+                self.server.knocked(listener);
+            }
+            _ => self.server.unaccepted(listener, self.now),
         }
     }
 
     /// Who was accepted is given its number, or closed.
-    fn let_in(&mut self, listener: usize, mut stream: TcpStream, port: u16) {
+    fn let_in(&mut self, listener: usize, handle: Handle, port: u16) {
         let Ok(number) = self.server.accepted(listener, port, self.now) else {
-            return shut_down(&mut stream, self.system.buffer.as_mut_slice());
+            return handle.end(&self.system.rt, self.system.buffer.as_mut_slice());
         };
-        let _is_told = keep_alive(&stream);
-        // Without it a small answer waits for the next.
-        let _outcome = stream.set_nodelay(true);
-        let interests = Interest::READABLE | Interest::WRITABLE;
-        let registry = self.system.poll.registry();
-        let told = registry.register(&mut stream, Token(number), interests);
-        let handle = Handle::Stream(stream, false);
-        if told.is_err() || self.system.put(number, handle).is_err() {
-            // Nothing would ever be told of it: a read finds that it has failed.
-            let _closed = self.system.take(number);
+        // Of a socket of which nothing would ever be told, a read finds that it has failed.
+        if !self.system.admit(number, handle) {
             self.server.readable(number, true);
         }
     }
@@ -93,39 +109,37 @@ impl Shell {
     fn read(&mut self, number: usize) {
         let (server, now) = (&mut self.server, self.now);
         let buffer = self.system.buffer.as_mut_slice();
-        let Some(handle) = self.system.handles.get_mut(number) else {
-            return server.failed(number, now);
-        };
-        match handle {
-            Handle::Stream(stream, has_failed) => {
+        match self.system.handles.get_mut(number) {
+            Some(Handle::Stream(stream, has_failed)) => {
                 read_once(server, stream, *has_failed, buffer, number, now);
             }
-            Handle::None | Handle::Listener(_) => server.failed(number, now),
+            Some(Handle::Client(stream)) => {
+                read_once(server, stream, false, buffer, number, now);
+            }
+            _ => server.failed(number, now),
         }
     }
 
     /// Writes once to a socket.
     fn write(&mut self, number: usize) {
         let (server, now) = (&mut self.server, self.now);
-        if let Some(handle) = self.system.handles.get_mut(number) {
-            match handle {
-                Handle::Stream(stream, has_failed) => {
-                    if write_once(server, stream, number, now) {
-                        *has_failed = true;
-                    }
-                    return;
+        match self.system.handles.get_mut(number) {
+            Some(Handle::Stream(stream, has_failed)) => {
+                if write_once(server, stream, number, now) {
+                    *has_failed = true;
                 }
-                Handle::None | Handle::Listener(_) => {}
             }
+            Some(Handle::Client(stream)) => {
+                let _has_failed = write_once(server, stream, number, now);
+            }
+            _ => server.unwritten(number, now),
         }
-        server.unwritten(number, now);
     }
 
-    /// Shuts a socket, both ways, once what stands unread is thrown away, or ends a listener.
+    /// Shuts a socket, or ends a listener.
     fn shut(&mut self, number: usize) {
-        if let Handle::Stream(mut stream, _) = self.system.take(number) {
-            shut_down(&mut stream, self.system.buffer.as_mut_slice());
-        }
+        let handle = self.system.take(number);
+        handle.end(&self.system.rt, self.system.buffer.as_mut_slice());
         self.server.shut(number);
     }
 }

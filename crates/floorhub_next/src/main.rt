@@ -1,17 +1,18 @@
 //! A floor control server: conferences of a configuration over TCP, a port for each user and doors for all, and an
 //! administrator's lines.
 //!
-//! What is decided stands in floor_turn, a value; here it is asked what is to be done, the system is called, and the
+//! What is decided stands in floor_service, a value; here it is asked what is to be done, the system is called, and the
 //! value is told what the system answered. One thread waits, for all sockets and standard input at once; the log has
-//! another. Standard input holds the administrator's lines; each is answered on standard output. Status 0 after `stop`
-//! where all was in order; 1 for a fault, which standard error names; 2 for words that are refused.
+//! another, and so has the text of a configuration that a control client sends. Standard input holds the administrator's
+//! lines; each is answered on standard output. Status 0 after a stop where all was in order; 1 for a fault, which
+//! standard error names; 2 for words that are refused.
 #![tactic(auto)]
 
+mod asking;
 mod board;
-mod console;
 mod doing;
-mod lines;
 mod moving;
+mod reading;
 mod running;
 mod shell;
 mod system;
@@ -27,6 +28,7 @@ const PROGRAM: Program = Program {
     name: "floorhub_next",
     about: "Serves the floors of conferences (BFCP, RFC 8855) as one value, and reads an administrator's lines.",
     by_loops: true,
+    by_json: true,
 };
 
 fn main(rt: HostRuntime) -> ExitCode {

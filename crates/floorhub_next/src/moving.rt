@@ -1,25 +1,23 @@
 //! One read and one write: what a stream gave is handed in, and what it took is what was lent.
 
 ghost use Rattle.std.specs.Prelude.{◌≡◌, true};
-ghost use Rattle.floor_sockets.specs.Sockets.{life_at};
-ghost use Rattle.floor_connections.specs.Asked.{writes};
 ghost use Rattle.floor_connections.specs.Steps.{at_time};
 ghost use Rattle.floor_turn.specs.Over.{IsUnwritten};
-ghost use Rattle.floorhub_next.specs.Moving.{Heard, Wrote, count_of};
+ghost use Rattle.floorhub_next.specs.Moving.{Heard, IsMember, Wrote, asks_write, count_of};
 
+use floor_service::{Now, Service};
 use floor_streams::{Found, Written, read_some, write_some};
-use floor_turn::Server;
 use std::io::{Read, Write};
 
 /// Reads once from a socket's stream, and tells the value what the read found. Of a stream of which a write has failed
 /// nothing more comes than what is there, and its end is no end in order: the write was told why.
 pub fn read_once<S: Read>(
-    server: &mut Server,
+    server: &mut Service,
     stream: &mut S,
     has_failed: bool,
     buffer: &mut [u8],
     socket: usize,
-    now: u64,
+    now: Now,
 )
     ensures value { Heard socket server.old server.new
         (S.remaining stream.old) (S.remaining stream.new) }
@@ -39,13 +37,12 @@ pub fn read_once<S: Read>(
 
 /// Writes once what is lent to a socket, and tells the value how much its stream took, or that the write failed. Says
 /// whether it did.
-pub fn write_once<S: Write>(server: &mut Server, stream: &mut S, socket: usize, now: u64) -> bool
-    ensures value { Wrote socket server.old server.new
+pub fn write_once<S: Write>(server: &mut Service, stream: &mut S, socket: usize, now: Now) -> bool
+    ensures value { Wrote socket result server.old server.new
         (S.contents stream.old) (S.contents stream.new) }
-    ensures failed { result ≡ true
-        → writes (life_at server.old.connections.sockets socket) ≡ true
-        → IsUnwritten socket (at_time now server.old.connections.sockets)
-        server.new.connections.sockets }
+    ensures failed { result ≡ true → IsMember server.old socket → asks_write server.old socket ≡ true
+        → IsUnwritten socket (at_time now.micros server.old.server.connections.sockets)
+        server.new.server.connections.sockets }
 {
     let written = write_some(stream, server.lent(socket));
     match written {

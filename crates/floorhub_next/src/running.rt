@@ -4,28 +4,17 @@ use crate::shell::Shell;
 use crate::system::System;
 use floor_listen::{Ending, ServerFault};
 use floor_log::Log;
+use floor_program::{now_since, read_seed, service_of};
 use floor_server::{
-    MAX_LONGEST, Program, Task, Words, check_configuration, check_keeping, ending_of_words, print,
-    read_words,
+    Program, Task, Words, check_configuration, check_keeping, ending_of_words, print, read_words,
 };
-use floor_turn::{Bounds, Grace, Server};
 use std::alloc::Global;
 use std::sync::{Arc, Wait};
 use std::thread::Threads;
-use std::time::Clock;
-
-/// How many sockets of a conference and of one of its users there are at most, of whose members 64 may be live: as many
-/// again may be on their way out.
-const BOUNDS: Bounds = Bounds {
-    of_user: 64,
-    of_conference: 128,
-};
-
-/// How many milliseconds a second has.
-const MILLIS: u64 = 1_000;
+use std::time::{Clock, Instant};
 
 /// What is said where the words ask for what isn't served here.
-const REFUSED: &str = "error: --keep and --control are not served by this program yet\n";
+const REFUSED: &str = "error: --keep is not served by this program yet\n";
 
 /// What is said where the words ask for more loops than there are.
 const LOOPS: &str = "--loops: one loop serves\n";
@@ -63,13 +52,16 @@ fn serve<R: Clock + Threads + Wait + Copy + Drop + Send + 'static>(
     waits: &R,
     words: &Words,
 ) -> Ending {
-    if words.keep.is_some() || words.control.is_some() {
+    if words.keep.is_some() {
         let _told = print(&mut rt.stderr(), REFUSED);
         return Ending::Refused;
     }
     if words.loops.is_some() {
         let _told = print(&mut rt.stderr(), LOOPS);
     }
+    let Ok(seed) = read_seed(&rt) else {
+        return Ending::Fault(ServerFault::CannotRead);
+    };
     let Ok(system) = System::new(rt) else {
         return Ending::Fault(ServerFault::Memory);
     };
@@ -77,34 +69,21 @@ fn serve<R: Clock + Threads + Wait + Copy + Drop + Send + 'static>(
         true => Log::start(*waits, rt.alloc(), rt.stderr()),
         false => None,
     };
-    serve_over(waits, words, system, log)
+    serve_over(waits, words, seed, system, log)
 }
 
 /// Serves over what was had of the system.
-fn serve_over<R: Clock + Wait>(
+fn serve_over<R: Clock + Threads + Wait>(
     waits: &R,
     words: &Words,
+    seed: [u8; 32],
     system: System,
     log: Option<Arc<Log, Global>>,
 ) -> Ending {
-    let mut server = server_of(system.alloc, words);
-    if words.longest < MAX_LONGEST {
-        server.end_longer(words.longest);
-    }
-    let mut shell = Shell::new(server, system, log);
+    let begun = Instant::now(&system.rt).ok();
+    let Ok(server) = service_of(system.alloc, words, seed, now_since(&system.rt, begun)) else {
+        return Ending::Fault(ServerFault::Memory);
+    };
+    let mut shell = Shell::new(server, system, begun, log);
     shell.serve(waits, words)
-}
-
-/// The value, where members outlive their sockets as the words say.
-fn server_of(alloc: Global, words: &Words) -> Server {
-    if words.grace == 0 {
-        return Server::new(alloc, BOUNDS);
-    }
-    let lost = words.grace.saturating_mul(MILLIS);
-    let resumed = lost;
-    let grace = Grace { lost, resumed };
-    if words.grace_for_all {
-        return Server::with_grace_for_all(alloc, BOUNDS, grace);
-    }
-    Server::with_grace(alloc, BOUNDS, grace)
 }

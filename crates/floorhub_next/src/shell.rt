@@ -1,19 +1,22 @@
 //! The value, and the system under it: what the poll tells is handed in, what is to be done is done, and the
 //! administrator's lines are answered.
 
-use crate::console::{Console, INPUT, OUTPUT};
+use crate::asking::ASKED;
+use crate::reading::READ;
 use crate::system::{Handle, System};
 use floor_console::{BoardRefusal, Command, ConsoleFault, run_command};
 use floor_listen::{Ending, ServerFault, ended};
 use floor_log::Log;
+use floor_program::{Console, Counts, HttpPort, INPUT, OUTPUT, now_since};
 use floor_server::{Door, Entrance, Words, fault_of_opening, fault_of_stop, print};
-use floor_turn::{NamedBy, Server};
+use floor_service::{NamedBy, Now, Place, Service};
 use mio::Token;
 use mio::event::Event;
 use std::alloc::{AllocError, Global};
 use std::collections::VecDeque;
 use std::sync::{Arc, Wait};
 use std::thread;
+use std::thread::Threads;
 use std::time::{Clock, Duration, Instant};
 
 /// How many deeds are done, and for how many microseconds, until the poll is asked again, so that who floods holds up no
@@ -28,19 +31,17 @@ const REST_MILLIS: u64 = 10;
 /// The value and the system.
 #[derive(Drop)]
 pub struct Shell {
-    pub server: Server,
+    pub server: Service,
     pub system: System,
     pub console: Console,
     pub log: Option<Arc<Log, Global>>,
     /// What the log is to be told.
     told: VecDeque<Result<String, AllocError>>,
     begun: Option<Instant>,
-    /// How late it is, in microseconds.
-    pub now: u64,
-    /// How many members ever joined.
-    pub joined: usize,
-    /// The conferences that were ever opened.
-    pub conferences: Vec<u32>,
+    pub now: Now,
+    /// When it began, in milliseconds since 1970-01-01T00:00:00Z.
+    pub since: u64,
+    pub counts: Counts,
     /// Once it stops: whether the administrator has asked for that, or by which fault.
     served: Option<Result<(), ServerFault>>,
     /// Whether the value has ended.
@@ -49,17 +50,22 @@ pub struct Shell {
 
 impl Shell {
     /// A value that serves nobody yet.
-    pub fn new(server: Server, system: System, log: Option<Arc<Log, Global>>) -> Shell {
-        let alloc = system.alloc;
+    pub fn new(
+        server: Service,
+        system: System,
+        begun: Option<Instant>,
+        log: Option<Arc<Log, Global>>,
+    ) -> Shell {
+        let (alloc, now) = (system.alloc, now_since(&system.rt, begun));
         Shell {
             server,
             console: Console::new(alloc, system.poll.registry()),
             log,
             told: VecDeque::new(alloc),
-            begun: Instant::now(&system.rt).ok(),
-            now: 0,
-            joined: 0,
-            conferences: Vec::new(alloc),
+            now,
+            since: now.unix_millis,
+            counts: Counts::new(alloc),
+            begun,
             served: None,
             has_ended: false,
             system,
@@ -67,20 +73,21 @@ impl Shell {
     }
 
     /// Serves by the words until all is done, and says how that ended.
-    pub fn serve<R: Clock + Wait>(&mut self, waits: &R, words: &Words) -> Ending {
+    pub fn serve<R: Clock + Threads + Wait>(&mut self, waits: &R, words: &Words) -> Ending {
         match self.begin(words) {
             Ok(()) => {}
             Err(fault) => self.stop(Err(fault)),
         }
         self.go_on(waits);
+        self.system.let_go();
         self.end_log(waits);
         ended(self.last_words(), self.found())
     }
 
-    /// Opens the conferences of the file, and then the doors to them.
+    /// Opens the conferences of the file, and then the doors to them and the sockets of control clients.
     fn begin(&mut self, words: &Words) -> Result<(), ServerFault> {
         match self.open_all(words) {
-            Ok(()) => print(&mut self.system.rt.stdout(), "ready\n"),
+            Ok(()) => self.tell_output("ready\n"),
             Err(refusal) => Err(fault_of_opening(refusal)),
         }
     }
@@ -90,6 +97,25 @@ impl Shell {
         for door in words.doors.iter() {
             self.system.bind_door(*door)?;
             self.open_door(*door)?;
+        }
+        self.open_sockets(words)
+    }
+
+    /// Has control clients let in, by whom the console may end, and those that look alone.
+    fn open_sockets(&mut self, words: &Words) -> Result<(), BoardRefusal> {
+        if let Some(path) = &words.control {
+            let (path, mode) = (path.as_str(), words.control_mode);
+            self.system.control = Some(self.system.bind_path("--control", path, mode)?);
+            self.server.clients(Place::Control)?;
+            self.console.may_end = true;
+        }
+        if let Some(port) = words.http {
+            self.system.open_http(port)?;
+        }
+        if let Some(path) = &words.observe {
+            let (path, mode) = (path.as_str(), words.observe_mode);
+            self.system.observe = Some(self.system.bind_path("--observe", path, mode)?);
+            self.server.clients(Place::Observe)?;
         }
         Ok(())
     }
@@ -109,14 +135,16 @@ impl Shell {
     }
 
     /// Serves until all is done.
-    fn go_on<R: Clock + Wait>(&mut self, waits: &R) {
+    fn go_on<R: Clock + Threads + Wait>(&mut self, waits: &R) {
         for _ in waits.forever() {
+            self.see_to_reading(waits);
             let is_done = self.settle();
             self.tell_log(waits);
             if self.has_ended {
                 break;
             }
             self.wait(is_done);
+            self.see_to_http();
             self.see_to_console();
         }
     }
@@ -124,17 +152,21 @@ impl Shell {
     /// Does what is to be done, so many deeds at most, and says whether there are no more.
     pub fn settle(&mut self) -> bool {
         self.look();
-        let until = self.now.saturating_add(MAX_MICROS);
+        let until = self.now.micros.saturating_add(MAX_MICROS);
         for _ in 0..MAX_DEEDS {
             if self.has_ended {
                 return true;
             }
-            if until < self.now {
+            if until < self.now.micros {
                 return false;
             }
             match self.server.next() {
                 Some(deed) => self.do_deed(deed),
-                None => return true,
+                None => {
+                    // Nobody asks for these ports any more.
+                    self.system.bound.clear();
+                    return true;
+                }
             }
             self.look();
         }
@@ -143,18 +175,19 @@ impl Shell {
 
     /// Looks at the clock, and tells the value.
     fn look(&mut self) {
-        if let (Some(begun), Ok(now)) = (self.begun, Instant::now(&self.system.rt)) {
-            let micros = now.duration_since(begun).as_micros();
-            self.now = u64::try_from(micros).unwrap_or(u64::MAX);
-        }
+        self.now = now_since(&self.system.rt, self.begun);
         self.server.time(self.now);
     }
 
-    /// All is done. Where nobody has asked for that a port of the start couldn't be listened on.
-    pub fn end(&mut self) {
+    /// All is done. Where the administrator hasn't asked for that a client has, or a port of the start couldn't be listened
+    /// on.
+    pub fn end(&mut self, has_fault: bool) {
         self.has_ended = true;
         if self.served.is_none() {
-            self.served = Some(Err(ServerFault::CannotListen));
+            self.served = Some(match has_fault {
+                true => Err(ServerFault::CannotListen),
+                false => Ok(()),
+            });
         }
     }
 
@@ -169,6 +202,8 @@ impl Shell {
         for event in &self.system.events {
             match event.token() {
                 INPUT | OUTPUT => self.console.note(event.token()),
+                READ => self.system.reader.is_done = true,
+                Token(number) if ASKED <= number => note_asked(&mut self.system.http, number),
                 Token(number) => hand_in(&mut self.server, &self.system.handles, number, event),
             }
         }
@@ -177,11 +212,17 @@ impl Shell {
     /// How long the sockets are waited for: not at all where more is to be done here or for the console, and else until the
     /// value wants the time.
     fn patience(&mut self, is_done: bool) -> Option<Duration> {
-        if !is_done || (self.served.is_none() && self.console.is_ready()) {
+        let is_wanted = self.system.reader.is_wanted();
+        if !is_done || is_wanted || (self.served.is_none() && self.console.is_ready()) {
             return Some(Duration::ZERO);
         }
-        let due = self.server.due()?;
-        Some(Duration::from_micros(due.saturating_sub(self.now)))
+        let asked = match &self.system.http {
+            Some(http) if http.is_ready() => return Some(Duration::ZERO),
+            Some(http) => http.due(),
+            None => None,
+        };
+        let due = earlier(self.server.due(), asked)?;
+        Some(Duration::from_micros(due.saturating_sub(self.now.micros)))
     }
 
     /// Sees to the administrator, while it serves.
@@ -198,8 +239,9 @@ impl Shell {
     /// Reads standard input and writes standard output, once each, where they are ready, and answers the next line.
     fn converse(&mut self) -> Result<(), ServerFault> {
         self.serve_console()?;
-        self.tell_on()?;
-        match self.console.next(self.system.alloc)? {
+        let alloc = self.system.alloc;
+        self.console.tell_on(alloc, &self.server)?;
+        match self.console.next(alloc)? {
             Some(command) => self.carry_out(command),
             None => Ok(()),
         }
@@ -229,16 +271,30 @@ impl Shell {
 
     /// What answers a line.
     fn answer(&mut self, command: Result<Command, ConsoleFault>) -> Result<String, AllocError> {
-        run_command(self.system.alloc, self, command)
+        let alloc = self.system.alloc;
+        match &command {
+            Ok(Command::Open { .. }) if self.server.is_draining() => {
+                String::from_str(alloc, "error Draining\n")
+            }
+            _ => run_command(alloc, self, command),
+        }
     }
 
-    /// Whether it served in order; where it did the administrator who has stopped it is answered.
+    /// Tells standard output; where the console may end it needs no reader.
+    fn tell_output(&self, text: &str) -> Result<(), ServerFault> {
+        match print(&mut self.system.rt.stdout(), text) {
+            Err(_) if self.console.may_end => Ok(()),
+            printed => printed,
+        }
+    }
+
+    /// Whether it served in order; where it did standard output is told how it stopped.
     fn last_words(&mut self) -> Result<(), ServerFault> {
         if let Some(Err(fault)) = self.served {
             return Err(fault);
         }
         let text = self.answer(Ok(Command::Stop))?;
-        print(&mut self.system.rt.stdout(), text.as_str())
+        self.tell_output(text.as_str())
     }
 
     /// What the stop has found wrong.
@@ -274,10 +330,27 @@ impl Shell {
     }
 }
 
+/// The earlier of two times.
+fn earlier(one: Option<u64>, other: Option<u64>) -> Option<u64> {
+    match (one, other) {
+        (Some(one), Some(other)) => Some(one.min(other)),
+        (Some(time), None) | (None, Some(time)) => Some(time),
+        (None, None) => None,
+    }
+}
+
+/// The poll told of the port at which is answered by HTTP.
+fn note_asked(http: &mut Option<HttpPort>, token: usize) {
+    if let Some(http) = http {
+        http.note(token);
+    }
+}
+
 /// Hands in what the poll told of a socket or a listener.
-fn hand_in(server: &mut Server, handles: &[Handle], number: usize, event: &Event) {
-    if let Some(Handle::Listener(_)) = handles.get(number) {
-        return server.knocked(number);
+fn hand_in(server: &mut Service, handles: &[Handle], number: usize, event: &Event) {
+    match handles.get(number) {
+        Some(Handle::Listener(_) | Handle::Clients(_)) => return server.knocked(number),
+        _ => {}
     }
     let ends = event.is_read_closed() || event.is_error();
     if event.is_readable() || ends {

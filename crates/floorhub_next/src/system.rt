@@ -1,17 +1,21 @@
-//! What is had of the system: the poll, the sockets by their numbers, and ports.
+//! What is had of the system: the poll, the sockets by their numbers, and what is listened on.
 //!
-//! Ports are listened on before the value is told of them, so that where one can't be had nothing is opened.
+//! It is listened on before the value is told of them, so that where one can't be had nothing is opened.
 
+use crate::reading::Reader;
 use floor_config::Config;
 use floor_console::BoardRefusal;
 use floor_listen::listening_address;
-use floor_server::{Door, PortFault, Reason, tell};
-use floor_turn::MAX_READ;
-use mio::net::{TcpListener, TcpStream};
-use mio::{Events, Poll};
+use floor_program::{ClientSocket, HttpPort, end_client};
+use floor_server::{Door, PortFault, Reason, keep_alive, tell};
+use floor_service::{MAX_READ, Place};
+use floor_streams::shut_down;
+use mio::net::{TcpListener, TcpStream, UnixStream};
+use mio::{Events, Interest, Poll, Registry, Token};
 use std::alloc::{AllocError, Global};
-use std::mem;
+use std::io::ErrorKind;
 use std::net::SocketAddr;
+use std::{io, mem};
 
 /// How many sockets are told to be ready at a time.
 const MAX_EVENTS: usize = 1_024;
@@ -21,8 +25,55 @@ const MAX_EVENTS: usize = 1_024;
 pub enum Handle {
     None,
     Listener(TcpListener),
+    /// That of control clients.
+    Clients(ClientSocket),
     /// A peer's, and whether a write to it has failed.
     Stream(TcpStream, bool),
+    /// A control client's.
+    Client(UnixStream),
+}
+
+impl Handle {
+    /// Has the poll tell of it by its number.
+    pub fn register(&mut self, registry: &Registry, number: usize) -> io::Result<()> {
+        let (token, both) = (Token(number), Interest::READABLE | Interest::WRITABLE);
+        match self {
+            Handle::Listener(listener) => registry.register(listener, token, Interest::READABLE),
+            Handle::Clients(socket) => socket.register(registry, token),
+            Handle::Stream(stream, _) => {
+                let _is_told = keep_alive(stream);
+                // Without it a small answer waits for the next.
+                let _outcome = stream.set_nodelay(true);
+                registry.register(stream, token, both)
+            }
+            Handle::Client(stream) => registry.register(stream, token, both),
+            Handle::None => Ok(()),
+        }
+    }
+
+    /// Who waits at a listener, and from which port of its own: 0 of a control client.
+    pub fn accept(&self) -> io::Result<(Handle, u16)> {
+        match self {
+            Handle::Listener(listener) => {
+                let (stream, address) = listener.accept()?;
+                Ok((Handle::Stream(stream, false), address.port()))
+            }
+            Handle::Clients(socket) => Ok((Handle::Client(socket.accept()?), 0)),
+            Handle::None | Handle::Stream(_, _) | Handle::Client(_) => {
+                Err(io::Error::from(ErrorKind::WouldBlock))
+            }
+        }
+    }
+
+    /// Shuts a stream, both ways, once what stands unread is thrown away, or ends a listener.
+    pub fn end(self, rt: &HostRuntime, buffer: &mut [u8]) {
+        match self {
+            Handle::Stream(mut stream, _) => shut_down(&mut stream, buffer),
+            Handle::Client(mut stream) => end_client(&mut stream, buffer),
+            Handle::Clients(socket) => socket.end(rt),
+            Handle::Listener(_) | Handle::None => {}
+        }
+    }
 }
 
 /// A port that is listened on.
@@ -43,6 +94,10 @@ pub struct System {
     pub handles: Vec<Handle>,
     /// What is listened on and isn't the value's yet.
     pub bound: Vec<Bound>,
+    pub control: Option<ClientSocket>,
+    pub observe: Option<ClientSocket>,
+    pub http: Option<HttpPort>,
+    pub reader: Reader,
     /// What a read gives.
     pub buffer: Vec<u8>,
 }
@@ -54,6 +109,7 @@ impl System {
         let poll = Poll::new(&rt).map_err(|_| AllocError)?;
         let events = Events::with_capacity(alloc, MAX_EVENTS)?;
         let buffer = Vec::from_elem(alloc, 0u8, MAX_READ)?;
+        let reader = Reader::new(alloc, &poll)?;
         Ok(System {
             rt,
             alloc,
@@ -61,6 +117,10 @@ impl System {
             events,
             handles: Vec::new(alloc),
             bound: Vec::new(alloc),
+            control: None,
+            observe: None,
+            http: None,
+            reader,
             buffer,
         })
     }
@@ -73,6 +133,18 @@ impl System {
             }
         }
         Ok(())
+    }
+
+    /// Listens on all these ports, or on none: then it gives one that can't be had.
+    pub fn bind_ports(&mut self, ports: &[u16]) -> Option<u16> {
+        let before = self.bound.len();
+        for port in ports {
+            if self.bind(*port).is_err() {
+                self.bound.truncate(before);
+                return Some(*port);
+            }
+        }
+        None
     }
 
     /// Listens on a user's port.
@@ -92,9 +164,14 @@ impl System {
     }
 
     /// Listens on a port of 127.0.0.1.
+    pub fn listen(&self, port: u16) -> io::Result<TcpListener> {
+        TcpListener::bind(&self.rt, SocketAddr::V4(listening_address(port)))
+    }
+
+    /// Listens on a port that becomes the value's.
     fn bind(&mut self, port: u16) -> Result<(), PortFault> {
         self.bound.reserve(1)?;
-        match TcpListener::bind(&self.rt, SocketAddr::V4(listening_address(port))) {
+        match self.listen(port) {
             Ok(listener) => {
                 self.bound.push_reserved(Bound { port, listener });
                 Ok(())
@@ -103,23 +180,47 @@ impl System {
         }
     }
 
-    /// Where something wasn't done, the ports that were had for it behind the first `count` are let go.
-    pub fn unbind(
-        &mut self,
-        count: usize,
-        done: Result<(), BoardRefusal>,
-    ) -> Result<(), BoardRefusal> {
-        if done.is_err() {
-            self.bound.truncate(count);
+    /// Listens at a path for whom the mode lets in, as this word asks.
+    pub fn bind_path(
+        &self,
+        word: &str,
+        path: &str,
+        mode: u32,
+    ) -> Result<ClientSocket, BoardRefusal> {
+        match ClientSocket::open(&self.rt, String::from_str(self.alloc, path)?, mode) {
+            Ok(socket) => Ok(socket),
+            Err(error) => {
+                let fault = PortFault::System(error);
+                self.checked(Err(fault.at_socket(self.alloc, word, path)))
+            }
         }
-        done
     }
 
-    /// What listens on a port.
-    pub fn take_bound(&mut self, port: u16) -> Option<TcpListener> {
+    /// Lets the control clients' sockets go that didn't become the value's.
+    pub fn let_go(&mut self) {
+        if let Some(socket) = self.control.take() {
+            socket.end(&self.rt);
+        }
+        if let Some(socket) = self.observe.take() {
+            socket.end(&self.rt);
+        }
+    }
+
+    /// What listens at a place.
+    pub fn take_listening(&mut self, place: Place) -> Option<Handle> {
+        match place {
+            Place::Port { port, .. } | Place::Door { port, .. } | Place::Health { port } => {
+                self.take_bound(port)
+            }
+            Place::Control => Some(Handle::Clients(self.control.take()?)),
+            Place::Observe => Some(Handle::Clients(self.observe.take()?)),
+        }
+    }
+
+    fn take_bound(&mut self, port: u16) -> Option<Handle> {
         let place = self.bound.iter().position(|bound| bound.port == port)?;
         let Bound { listener, .. } = self.bound.swap_remove(place);
-        Some(listener)
+        Some(Handle::Listener(listener))
     }
 
     /// Tells a person of a refusal.
@@ -133,8 +234,14 @@ impl System {
         }
     }
 
-    /// Puts a socket under its number. Where memory is refused it is closed.
-    pub fn put(&mut self, number: usize, handle: Handle) -> Result<(), AllocError> {
+    /// Puts a socket or a listener under its number, has the poll tell of it by that, and says whether it could. Where it
+    /// couldn't that is closed.
+    pub fn admit(&mut self, number: usize, mut handle: Handle) -> bool {
+        let told = handle.register(self.poll.registry(), number);
+        told.is_ok() && self.put(number, handle).is_ok()
+    }
+
+    fn put(&mut self, number: usize, handle: Handle) -> Result<(), AllocError> {
         for _ in self.handles.len()..number.saturating_add(1) {
             self.handles.push(Handle::None)?;
         }

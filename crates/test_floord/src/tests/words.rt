@@ -58,12 +58,14 @@ const LOOPING: Program = Program {
     name: "looping",
     about: "Serves by loops.",
     by_loops: true,
+    by_json: false,
 };
 
 const PLAIN: Program = Program {
     name: "plain",
     about: "Serves.",
     by_loops: false,
+    by_json: false,
 };
 
 /// Words, and the loops and the longest message that they ask for, or the first line of why they are refused: of a

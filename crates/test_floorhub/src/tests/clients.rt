@@ -92,6 +92,7 @@ where
         name: "floorhub",
         about: "",
         by_loops: true,
+        by_json: false,
     };
     run(
         rt,

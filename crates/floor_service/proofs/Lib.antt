@@ -1,0 +1,4 @@
+pub mod Attending
+pub mod Moving
+pub mod Quietly
+pub mod Settled
