@@ -104,17 +104,17 @@ export function stop(program) {
 }
 
 
-/** Says a line at the control socket, which has to be answered so. */
-export async function say(path, line, answer) {
+/** Calls a server at its control socket, by a method that has to be carried out. */
+export async function call(path, method, params = {}) {
   const socket = createConnection(path);
   const told = await new Promise((resolve, reject) => {
     let text = "";
     socket.on("data", (piece) => (text += piece).includes("\n") && resolve(text.split("\n")[0]));
     socket.once("error", reject);
-    socket.write(`${line}\n`);
+    socket.write(`${JSON.stringify({ id: 1, method, params })}\n`);
   });
   socket.destroy();
-  if (!told.startsWith(answer)) throw new Error(`${line}: ${told}`);
+  if (!JSON.parse(told).result) throw new Error(`${method} ${JSON.stringify(params)}: ${told}`);
   count.steps++;
 }
 

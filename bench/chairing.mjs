@@ -9,7 +9,7 @@
 import { mkdtempSync, rmSync, writeFileSync } from "node:fs";
 import { tmpdir } from "node:os";
 import { join } from "node:path";
-import { ADDRESS, Client, PATIENCE, Tab, count, floorwebPath, folder, run, say, serverPath, sleep, start, stop, tokensOf } from "./browser.mjs";
+import { ADDRESS, Client, PATIENCE, Tab, count, floorwebPath, folder, run, call, serverPath, sleep, start, stop, tokensOf } from "./browser.mjs";
 
 const MINUTES = Number(process.env.MINUTES ?? 1);
 const PART = process.env.PART;
@@ -26,6 +26,7 @@ const idOf = (name) => 10 + people.indexOf(name);
 const place = mkdtempSync(join(tmpdir(), "chairing-"));
 const config = join(place, "meeting.toml");
 const control = join(place, "control");
+const observe = join(place, "observe");
 const user = (name) => `[[conference.user]]
 id = ${idOf(name)}
 name = "${name}"
@@ -47,13 +48,12 @@ chair = ${idOf("Dee")}
 id = 2
 title = "Screen"
 `);
-writeFileSync(join(place, "token"), "the-token-of-the-operator\n");
+writeFileSync(join(place, "roles"), "operate the-token-of-the-operator\nobserve the-token-of-an-observer\n");
 const tokens = tokensOf(config);
-const hex = (text) => Buffer.from(text).toString("hex");
-const word = (key, text) => say(control, `word 1 ${key} ${hex(text)}`, `ok word 1 ${key}`);
+const word = (key, text) => call(control, "word.set", { conference: 1, key, text });
 
 let gateway;
-const startGateway = async () => (gateway = await start(floorwebPath, ADDRESS, config, folder, "--door-by-id", String(DOOR), "--control", control, "--operator", join(place, "token")));
+const startGateway = async () => (gateway = await start(floorwebPath, ADDRESS, config, folder, "--door-by-id", String(DOOR), "--control", control, "--observe", observe, "--roles", join(place, "roles")));
 
 /** Opens a page of each of these, connected. */
 async function open(...names) {
@@ -252,7 +252,7 @@ async function time([ann, ben, , dee]) {
   await ann.audit("a time that is over");
   await ann.picture("over", false);
   await ben.shows("over");
-  await say(control, "word 1 limit.1 -", "ok word 1 limit.1");
+  await word("limit.1", null);
 }
 
 /** Who is here, and what they are called. */
@@ -434,10 +434,9 @@ token = "token-of-the-person-in-${number}"
 id = 1
 `;
   writeFileSync(many, Array.from({ length: 500 }, (_, index) => one(index + 1)).join("\n"));
-  writeFileSync(join(place, "observer"), "the-token-of-an-observer\n");
-  const socket = join(place, "many");
-  const server = await start(serverPath, "--door-by-id", String(DOOR), "--control", socket, many);
-  const web = await start(floorwebPath, ADDRESS, many, folder, "--door-by-id", String(DOOR), "--control", socket, "--operator", join(place, "token"), "--observer", join(place, "observer"));
+    const socket = join(place, "many");
+  const server = await start(serverPath, "--door-by-id", String(DOOR), "--control", socket, "--observe", join(place, "seen"), many);
+  const web = await start(floorwebPath, ADDRESS, many, folder, "--door-by-id", String(DOOR), "--control", socket, "--observe", join(place, "seen"), "--roles", join(place, "roles"));
   const operator = await Tab.open("operator", "the-token-of-the-operator", "/operator");
   await operator.size(1_280, 900, false);
   await operator.until("document.querySelectorAll('#table tbody tr').length === 500", "500 rows", 60_000);
@@ -479,14 +478,14 @@ id = 1
   await observer.audit("who orders nothing");
   await Tab.closeAll();
   await stop(web);
-  await say(socket, "stop", "ok stopped");
+  await call(socket, "server.stop");
   server.stdin.end();
   return longest;
 }
 
 /** The meeting, from one end to the other. */
 async function meet() {
-  const server = await start(serverPath, "--door-by-id", String(DOOR), "--grace", String(GRACE), "--control", control, config);
+  const server = await start(serverPath, "--door-by-id", String(DOOR), "--grace", String(GRACE), "--control", control, "--observe", observe, config);
   await startGateway();
   await comeBack();
   const tabs = await lead();
@@ -497,7 +496,7 @@ async function meet() {
   await crowd();
   await Tab.closeAll();
   await stop(gateway);
-  await say(control, "stop", "ok stopped");
+  await call(control, "server.stop");
   server.stdin.end();
 }
 

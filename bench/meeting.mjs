@@ -15,7 +15,7 @@ import { mkdtempSync, rmSync, writeFileSync } from "node:fs";
 import { tmpdir } from "node:os";
 import { dirname, join } from "node:path";
 import { fileURLToPath } from "node:url";
-import { ADDRESS, Client, PATIENCE, Tab, count, floorwebPath, folder, order, run, say, serverPath, sleep, start, stop, tokensOf } from "./browser.mjs";
+import { ADDRESS, Client, PATIENCE, Tab, count, floorwebPath, folder, order, run, call, serverPath, sleep, start, stop, tokensOf } from "./browser.mjs";
 
 const config = join(dirname(fileURLToPath(import.meta.url)), "../examples/browsers.toml");
 const tokens = tokensOf(config);
@@ -292,10 +292,11 @@ async function meetByControl() {
   await Tab.closeAll();
   const place = mkdtempSync(join(tmpdir(), "control-"));
   const control = join(place, "control");
-  writeFileSync(join(place, "token"), `${OPERATOR}\n`);
+  const observe = join(place, "observe");
+  writeFileSync(join(place, "roles"), `operate ${OPERATOR}\n`);
   const door = ["--door-by-id", String(DOOR)];
-  let server = await start(serverPath, ...door, "--control", control, config);
-  const gateway = await start(floorwebPath, ADDRESS, config, folder, ...door, "--control", control, "--operator", join(place, "token"));
+  let server = await start(serverPath, ...door, "--control", control, "--observe", observe, config);
+  const gateway = await start(floorwebPath, ADDRESS, config, folder, ...door, "--control", control, "--observe", observe, "--roles", join(place, "roles"));
   const operator = await Tab.open("operator", OPERATOR, "/operator");
   await operator.size(390, 844);
   await operator.shows("Connected", 20_000);
@@ -320,19 +321,19 @@ async function meetByControl() {
   await operator.shows("has the floor");
 
   // A late user, with a link at once; a new floor; another chair.
-  await say(control, "user 1 14 name Eve", "ok user 1 14 at ");
-  await say(control, `word 1 token.14 ${Buffer.from("the-token-of-user-14--").toString("hex")}`, "ok word 1 token.14");
+  await call(control, "user.add", { conference: 1, id: 14, name: "Eve" });
+  await call(control, "word.set", { conference: 1, key: "token.14", text: "the-token-of-user-14--" });
   const eve = await Tab.open("Eve", "the-token-of-user-14--");
   await eve.size(390, 844);
   await eve.shows("You are Eve");
   await eve.shows("Connected", 20_000);
   await operator.shows("Eve (14)");
-  await say(control, "floor 1 3", "ok floor 1 3 at ");
-  await say(control, `word 1 title.3 ${Buffer.from("Whiteboard").toString("hex")}`, "ok word 1 title.3");
+  await call(control, "floor.add", { conference: 1, id: 3 });
+  await call(control, "word.set", { conference: 1, key: "title.3", text: "Whiteboard" });
   await ann.shows("Whiteboard");
   await ann.press("Whiteboard", "Take the floor");
   await ann.says("Whiteboard", ".standing", "You have the floor.");
-  await say(control, "chair 1 3 14", "ok chair 1 3 at ");
+  await call(control, "floor.chair", { conference: 1, floor: 3, chair: 14 });
   await ann.says("Whiteboard", ".rule", "One at a time, Eve decides");
   await eve.says("Whiteboard", ".rule", "One at a time, you decide");
   await eve.shows("You are Eve, chair");
@@ -382,12 +383,12 @@ async function meetByControl() {
 
   // floorhub goes and comes back: nothing is taken as ended meanwhile.
   const gone = new Promise((resolve) => server.once("exit", resolve));
-  await say(control, "stop", "ok stopped");
+  await call(control, "server.stop");
   await gone;
-  await operator.shows("The server is away");
+  await operator.shows("Not connected");
   await ann.shows("Not connected");
   await ann.hides("The meeting has ended");
-  server = await start(serverPath, ...door, "--control", control, config);
+  server = await start(serverPath, ...door, "--control", control, "--observe", observe, config);
   await operator.shows("Connected", 20_000);
   await ann.shows("Connected", 40_000);
 
@@ -405,7 +406,7 @@ async function meetByControl() {
   await wrong.audit("a link that isn't the operator's");
   await stop(gateway);
   // The end of its input stops no floorhub that has a control socket.
-  await say(control, "stop", "ok stopped");
+  await call(control, "server.stop");
   rmSync(place, { recursive: true, force: true });
 }
 

@@ -18,7 +18,7 @@ line_next bytes = if is_text bytes then Line bytes else NotText
 
 -- what comes where no whole line does, of so many bytes
 abbrev pub without_line : ℕ → NextLine
-without_line held = if nat_lt 262144 held then TooLong else Nothing
+without_line held = if nat_lt 1048576 held then TooLong else Nothing
 
 abbrev pub next_at : Option ℕ → List ℕ → NextLine
 next_at (Some len) held = line_next (take len held)

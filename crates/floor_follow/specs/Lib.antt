@@ -1,11 +1,8 @@
 -- What a reader has to believe, in the order of reading.
 pub mod Names
-pub mod Reading
-pub mod Facts
-pub mod Live
-pub mod Row
+pub mod Cutting
+pub mod Values
+pub mod Pictures
 pub mod Told
 pub mod Question
-pub mod Conference
 pub mod Following
-pub mod Cutting

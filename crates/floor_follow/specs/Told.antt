@@ -1,66 +1,66 @@
 -- What a line of the control socket tells.
-use Rattle.std.specs.Prelude.{ℕ, ◌^◌, List, codes, bytes_eq, Option, Some, None, Result, Ok, Err, if◌then◌else◌}
-use Rattle.floor_room.specs.declared.status.Phase.{Phase}
-use Rattle.floor_room.specs.declared.status.Phase.TheVariants.{Running, Ended, Broken}
-use Rattle.floor_follow.specs.Reading.{and_then, cut, begins_with, expect, is_empty, end, numbered}
-use Rattle.floor_follow.specs.Live.{event, notice}
-use Rattle.floor_follow.specs.Row.{row}
+use Rattle.std.specs.Prelude.{ℕ, List, codes, bytes_eq, ◌||◌, Option, Some, None, Result, Ok, Err, if◌then◌else◌}
+use Rattle.json.specs.Json.{Json}
+use Rattle.json.specs.Find.{get}
+use Rattle.floor_follow.specs.Values.{and_then, needed, u32_of, text_of, flag_of, list_of}
+use Rattle.floor_follow.specs.Pictures.{number_of, picture_of}
 use Rattle.floor_follow.specs.declared.fault.FollowFault.{FollowFault}
 use Rattle.floor_follow.specs.declared.fault.FollowFault.TheVariants.{UnknownLine}
+use Rattle.floor_follow.specs.declared.told.Listed.{Listed as TheListed}
 use Rattle.floor_follow.specs.declared.told.Told.{Told}
-use Rattle.floor_follow.specs.declared.told.Told.TheVariants.{Live, Row, Listed, End, Done, Refused}
+use Rattle.floor_follow.specs.declared.told.Told.TheVariants.{Changed, Forgotten, Nothing, Watched, Listed, Pictured, Refused}
 
--- `! <c> <place> ..`: an event of a conference
-abbrev pub live : List ℕ → Result Told FollowFault
-live text = and_then (numbered (2 ^ 32) text) (λ c. and_then (numbered (10 ^ 10) c.1) (λ p. and_then (event p.1) (λ change. Ok (Live c.0 change))))
+-- what an event tells of a conference: floor requests aren't in a picture
+abbrev pub told_of : (conference : ℕ) → (event : List ℕ) → Told
+told_of c event =
+    if bytes_eq event (codes "message") then Nothing
+    else if bytes_eq event (codes "revoked") then Nothing
+    else if bytes_eq event (codes "unkept") then Nothing
+    else if bytes_eq event (codes "forgotten") then Forgotten c
+    else Changed c
 
--- `~ <c> ..`: what is told of a conference and is no event
-abbrev pub noticed : List ℕ → Result Told FollowFault
-noticed text = and_then (numbered (2 ^ 32) text) (λ c. and_then (notice c.1) (λ change. Ok (Live c.0 change)))
+abbrev pub event_of : Json → Result (List ℕ) FollowFault
+event_of what = needed text_of (codes "event") what
 
-abbrev pub phase : List ℕ → Result Phase FollowFault
-phase name =
-    if bytes_eq name (codes "open") then Ok Running
-    else if bytes_eq name (codes "ended") then Ok Ended
-    else if bytes_eq name (codes "broken") then Ok Broken
+-- a notification, by its parameters
+abbrev pub notified : Json → Result Told FollowFault
+notified j =
+    and_then (needed u32_of (codes "conference") j) (λ c.
+    and_then (needed event_of (codes "what") j) (λ event.
+    Ok (told_of c event)))
+
+-- a part of the list
+abbrev pub listed : Json → Result TheListed FollowFault
+listed j =
+    and_then (needed (list_of number_of) (codes "conferences") j) (λ conferences.
+    and_then (needed flag_of (codes "more") j) (λ more.
+    Ok (record { conferences = conferences; has_more = more })))
+
+-- the answer to the question of this id
+abbrev pub answer_of : (id : List ℕ) → Json → Result Told FollowFault
+answer_of id j =
+    if bytes_eq id (codes "watch") then Ok Watched
+    else if bytes_eq id (codes "list") then and_then (listed j) (λ l. Ok (Listed l))
+    else if bytes_eq id (codes "picture") then and_then (picture_of j) (λ p. Ok (Pictured p))
     else Err UnknownLine
 
--- what is left behind `unkept`, where that stands there
-abbrev pub unkept_mark : List ℕ → Result (List ℕ) FollowFault
-unkept_mark text = if begins_with (codes "unkept") text then expect (codes "unkept") text else Ok text
+abbrev pub answered_by : Option Json → Json → Result Told FollowFault
+answered_by None j = Ok Refused
+answered_by (Some result) j = and_then (needed text_of (codes "id") j) (λ id. answer_of id result)
 
--- `conference <c> members <m> ongoing <k> events <e> <phase> [unkept]`
-abbrev pub listed : List ℕ → Result Told FollowFault
-listed text =
-    and_then (numbered (2 ^ 32) text) (λ c.
-    and_then (expect (codes "members") c.1) (λ at_members.
-    and_then (numbered (2 ^ 32) at_members) (λ m.
-    and_then (expect (codes "ongoing") m.1) (λ at_ongoing.
-    and_then (numbered (2 ^ 32) at_ongoing) (λ k.
-    and_then (expect (codes "events") k.1) (λ at_events.
-    and_then (numbered (10 ^ 10) at_events) (λ e.
-    and_then (cut e.1) (λ word.
-    and_then (phase word.0) (λ is.
-    and_then (unkept_mark word.1) (λ rest.
-    and_then (end rest) (λ _.
-    Ok (Listed (record { conference = c.0; phase = is; events = e.0 })))))))))))))
+-- an answer: without a result it is an error
+abbrev pub answered : Json → Result Told FollowFault
+answered j = answered_by (get (codes "result") j) j
 
--- `end <count> [<next place>]`
-abbrev pub ending : List ℕ → Result Told FollowFault
-ending text = and_then (numbered (10 ^ 10) text) (λ count.
-    if is_empty count.1 then Ok (End None)
-    else and_then (numbered (10 ^ 10) count.1) (λ next. and_then (end next.1) (λ _. Ok (End (Some next.0)))))
+abbrev pub told_with : Option Json → Json → Result Told FollowFault
+told_with (Some params) j = notified params
+told_with None j = answered j
 
-abbrev pub told_of : List ℕ → List ℕ → Result Told FollowFault
-told_of name rest =
-    if bytes_eq name (codes "!") then live rest
-    else if bytes_eq name (codes "~") then noticed rest
-    else if bytes_eq name (codes "conference") then listed rest
-    else if bytes_eq name (codes "end") then ending rest
-    else if bytes_eq name (codes "ok") then Ok Done
-    else if bytes_eq name (codes "error") then Ok Refused
-    else and_then (row name rest) (λ facts. Ok (Row facts))
+-- a value that has parameters is a notification, and else an answer
+abbrev pub told_by : Json → Result Told FollowFault
+told_by j = told_with (get (codes "params") j) j
 
--- what a line tells, by its first word
-abbrev pub told : List ℕ → Result Told FollowFault
-told line = and_then (cut line) (λ c. told_of c.0 c.1)
+-- what a line tells, by the value that it is
+abbrev pub told : Option Json → Result Told FollowFault
+told (Some j) = told_by j
+told None = Err UnknownLine

@@ -3,7 +3,6 @@
 ghost use Rattle.std.specs.Prelude.{◌≡◌};
 ghost use Rattle.floor_follow.specs.Names.{name_of};
 
-use floor_words::HexadecimalFault;
 use std::alloc::{AllocError, AllocFailed};
 
 /// Why a line of the control socket isn't taken. Whoever meets one follows anew: what was told behind it
@@ -12,11 +11,7 @@ use std::alloc::{AllocError, AllocFailed};
 pub enum FollowFault {
     /// No line of the control socket has this form.
     UnknownLine,
-    /// A number isn't one to ten decimal digits, or is above its type.
-    BadNumber,
-    /// A text has another character than a hexadecimal digit, or an odd count of digits.
-    BadHex,
-    /// The line belongs to an answer, and not to one of what was asked.
+    /// The line is an answer, and not to what was asked.
     Unasked,
     /// Memory was refused.
     Memory,
@@ -29,8 +24,6 @@ impl FollowFault {
     {
         match self {
             FollowFault::UnknownLine => "UnknownLine",
-            FollowFault::BadNumber => "BadNumber",
-            FollowFault::BadHex => "BadHex",
             FollowFault::Unasked => "Unasked",
             FollowFault::Memory => "Memory",
         }
@@ -56,19 +49,5 @@ impl<T: Drop> From<AllocFailed<T>> for FollowFault {
 
     fn from(_e: AllocFailed<T>) -> FollowFault {
         FollowFault::Memory
-    }
-}
-
-impl From<HexadecimalFault> for FollowFault {
-    ghost use Rattle.std.specs.Prelude.{◌≡◌};
-    ghost use Rattle.floor_follow.specs.Reading.{of_hexadecimal_fault};
-
-    ghost from_gives = { λ fault e. e ≡ of_hexadecimal_fault fault };
-
-    fn from(fault: HexadecimalFault) -> FollowFault {
-        match fault {
-            HexadecimalFault::BadHex => FollowFault::BadHex,
-            HexadecimalFault::Memory => FollowFault::Memory,
-        }
     }
 }

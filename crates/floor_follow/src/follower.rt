@@ -1,33 +1,36 @@
 //! The picture of all conferences, and what is asked for it.
 
-ghost use Rattle.std.specs.Prelude.{◌≡◌, ◌⊎◌, ◌==◌, ◌++◌, ◌∷◌, [], Ok, Err, IfErr, OnOk, filter, find, map, not, option_copied, position};
+ghost use Rattle.std.specs.Prelude.{◌≡◌, ◌⊎◌, ◌++◌, ◌∷◌, ◌==◌, [], Ok, Err, IfErr, OnOk, None, filter, find, not, option_copied, position};
 ghost use Rattle.std.specs.List.{list_all};
-ghost use Rattle.floor_follow.specs.Conference.{answered, changed, due, is_followed};
 ghost use Rattle.floor_follow.specs.Following as spec;
-ghost use Rattle.floor_follow.specs.declared.fault.FollowFault.TheVariants.{Memory, Unasked};
+ghost use Rattle.floor_follow.specs.declared.fault.FollowFault.TheVariants.{Memory};
 
-use crate::change::Change;
-use crate::conference::{Conference, Stage};
-use crate::fact::Facts;
+use crate::conference::{Conference, Picture};
 use crate::fault::FollowFault;
 use crate::question::Question;
 use crate::told::{Listed, Told};
 use std::alloc::{AllocError, AllocFailed, Global};
 use std::marker::Model;
 
+/// How far the list of the conferences was told.
+#[derive(Clone, Copy, Debug, PartialEq, Eq)]
+pub(crate) enum Listing {
+    /// What stands behind this one, if any, is to be asked for.
+    Due(Option<u32>),
+    /// All were told.
+    Told,
+}
+
 /// What is known of all conferences, and what is asked.
 ///
-/// `ask` gives what is to be asked next, and `hear` takes what a line tells; `begin_round` has the list of the
-/// conferences and their words asked for again, of which no live line tells. A fault of `hear` is the end: it
+/// `ask` gives what is to be asked next, and `hear` takes what a line tells. A fault of `hear` is the end: it
 /// is followed anew by a new `Follower`.
 #[derive(Drop)]
 pub struct Follower {
-    alloc: Global,
     conferences: Vec<Conference>,
     asked: Option<Question>,
-    rows: Facts,
-    is_list_due: bool,
-    has_list: bool,
+    is_watched: bool,
+    listing: Listing,
 }
 
 impl Model for Follower {
@@ -38,9 +41,8 @@ impl Model for Follower {
     ghost view = { λ f. record {
       conferences = f.conferences.items;
       asked = f.asked;
-      rows = f.rows;
-      is_list_due = f.is_list_due;
-      has_list = f.has_list;
+      is_watched = f.is_watched;
+      listing = f.listing;
     } };
 }
 
@@ -50,16 +52,14 @@ impl Follower {
         ensures value { result ≡ spec.nothing_known }
     {
         Follower {
-            alloc,
             conferences: Vec::new(alloc),
             asked: None,
-            rows: Facts::new(alloc),
-            is_list_due: true,
-            has_list: false,
+            is_watched: false,
+            listing: Listing::Due(None),
         }
     }
 
-    /// The conferences, in the order in which they were listed first.
+    /// The conferences, in the order in which they were told first.
     pub fn conferences(&self) -> &[Conference]
         ensures value { result.now ≡ self.now.conferences }
     {
@@ -75,19 +75,25 @@ impl Follower {
             .find(|conference| conference.number == number)
     }
 
-    /// Whether all was told that is asked first: the list, and of each conference what it has.
+    /// Whether all was told that is asked first: the list, and what each conference is.
     pub fn is_whole(&self) -> bool
         ensures value { result ≡ spec.is_whole self.now }
     {
-        self.has_list && all_followed(self.conferences.as_slice())
+        is_told(self.listing) && all_pictured(self.conferences.as_slice())
     }
 
-    /// Has the list of the conferences and their words asked for again.
-    pub fn begin_round(&mut self)
-        ensures next { self.new ≡ spec.round_begun self.old }
+    /// The conference whose picture a line changes, if it changes one.
+    pub fn changed_by(&self, told: &Told) -> Option<u32>
+        ensures value { result ≡ spec.changed_by self.now told.now }
     {
-        self.is_list_due = true;
-        begin_rounds(&mut self.conferences);
+        match told {
+            Told::Forgotten(conference) => Some(*conference),
+            Told::Pictured(_) | Told::Refused => match self.asked {
+                Some(Question::Picture(conference)) => Some(conference),
+                _ => None,
+            },
+            Told::Changed(_) | Told::Nothing | Told::Watched | Told::Listed(_) => None,
+        }
     }
 
     /// What is to be asked next, which is then taken as asked; nothing while an answer is awaited.
@@ -98,225 +104,144 @@ impl Follower {
         if self.asked.is_some() {
             return None;
         }
-        if self.is_list_due {
-            self.is_list_due = false;
-            begin_list(&mut self.conferences);
-            self.asked = Some(Question::List);
+        if !self.is_watched {
+            self.asked = Some(Question::Watch);
             return self.asked;
         }
-        self.asked = first_question(self.conferences.as_slice());
+        match self.listing {
+            Listing::Due(after) => self.asked = Some(Question::List(after)),
+            Listing::Told => self.asked = first_question(self.conferences.as_slice()),
+        }
+        // What changes from here on is asked for again, whatever this answer will have of it.
+        if let Some(Question::Picture(conference)) = self.asked {
+            take_as_asked(&mut self.conferences, conference);
+        }
         self.asked
     }
 
-    /// Takes what a line tells. `Unasked` where the line belongs to no answer of what was asked.
+    /// Takes what a line tells. `Unasked` where it is an answer, and not to what was asked.
     pub fn hear(&mut self, told: Told) -> Result<(), FollowFault>
         ensures took { OnOk result (spec.heard self.old told ≡ Ok self.new) }
         ensures refused { IfErr result (λ fault. (fault ≡ Memory)
             ⊎ (spec.heard self.old told ≡ Err fault)) }
-        ensures left { result ≡ Err Unasked → self.new ≡ self.old }
     {
         match told {
-            Told::Live { conference, change } => {
-                change_in(&mut self.conferences, conference, change)?;
+            Told::Changed(conference) => {
+                make_due(&mut self.conferences, conference)?;
                 Ok(())
             }
-            Told::Row(facts) => self.take_row(facts),
+            Told::Forgotten(conference) => {
+                drop_conference(&mut self.conferences, conference);
+                Ok(())
+            }
+            Told::Nothing => Ok(()),
+            Told::Watched => self.watched(),
             Told::Listed(listed) => self.list(listed),
-            Told::End { next } => self.end(next),
-            Told::Done => self.done(),
+            Told::Pictured(picture) => self.show(picture),
             Told::Refused => self.refused(),
         }
     }
 
-    /// Takes a line of an answer.
-    fn take_row(&mut self, facts: Facts) -> Result<(), FollowFault>
-        ensures took { OnOk result (spec.with_row facts self.old ≡ Ok self.new) }
-        ensures refused { IfErr result (λ fault. (fault ≡ Memory)
-            ⊎ (spec.with_row facts self.old ≡ Err fault)) }
-        ensures left { result ≡ Err Unasked → self.new ≡ self.old }
+    /// Takes it that all are watched.
+    fn watched(&mut self) -> Result<(), FollowFault>
+        ensures took { OnOk result (spec.with_watched self.old ≡ Ok self.new) }
+        ensures refused { IfErr result (λ fault. spec.with_watched self.old ≡ Err fault) }
     {
         match self.asked {
-            None | Some(Question::List) | Some(Question::Watch { .. }) => Err(FollowFault::Unasked),
-            Some(_) => {
-                self.rows.extend(facts)?;
+            Some(Question::Watch) => {
+                self.asked = None;
+                self.is_watched = true;
                 Ok(())
             }
+            _ => Err(FollowFault::Unasked),
         }
     }
 
-    /// Takes a line of the list.
+    /// Takes a part of the list.
     fn list(&mut self, listed: Listed) -> Result<(), FollowFault>
         ensures took { OnOk result (spec.with_listed listed self.old ≡ Ok self.new) }
         ensures refused { IfErr result (λ fault. (fault ≡ Memory)
             ⊎ (spec.with_listed listed self.old ≡ Err fault)) }
-        ensures left { result ≡ Err Unasked → self.new ≡ self.old }
     {
         match self.asked {
-            Some(Question::List) => {
-                list_in(self.alloc, &mut self.conferences, listed)?;
-                Ok(())
-            }
-            _ => Err(FollowFault::Unasked),
-        }
-    }
-
-    /// Takes the end of an answer.
-    fn end(&mut self, next: Option<u64>) -> Result<(), FollowFault>
-        ensures took { OnOk result (spec.with_end next self.old ≡ Ok self.new) }
-        ensures refused { IfErr result (λ fault. (fault ≡ Memory)
-            ⊎ (spec.with_end next self.old ≡ Err fault)) }
-        ensures left { result ≡ Err Unasked → self.new ≡ self.old }
-    {
-        match self.asked {
-            None | Some(Question::Watch { .. }) => Err(FollowFault::Unasked),
-            Some(Question::List) => {
-                end_list(&mut self.conferences);
-                self.has_list = true;
+            Some(Question::List(_)) => {
+                add_listed(&mut self.conferences, listed.conferences.as_slice())?;
+                self.listing = listing_behind(&listed);
                 self.asked = None;
                 Ok(())
             }
-            Some(
-                Question::Floors(conference)
-                | Question::Users(conference)
-                | Question::Members(conference)
-                | Question::Words(conference),
-            ) => {
-                self.answer(conference, next)?;
-                Ok(())
-            }
+            _ => Err(FollowFault::Unasked),
         }
     }
 
-    /// Takes it that what was asked is done.
-    fn done(&mut self) -> Result<(), FollowFault>
-        ensures took { OnOk result (spec.with_done self.old ≡ Ok self.new) }
-        ensures refused { IfErr result (λ fault. (fault ≡ Memory)
-            ⊎ (spec.with_done self.old ≡ Err fault)) }
-        ensures left { result ≡ Err Unasked → self.new ≡ self.old }
+    /// Takes what the conference is that was asked for.
+    fn show(&mut self, picture: Picture) -> Result<(), FollowFault>
+        ensures took { OnOk result (spec.with_picture picture self.old ≡ Ok self.new) }
+        ensures refused { IfErr result (λ fault. spec.with_picture picture self.old ≡ Err fault) }
     {
         match self.asked {
-            Some(Question::Watch { conference, .. }) => {
-                self.answer(conference, None)?;
+            Some(Question::Picture(conference)) => {
+                put_picture(&mut self.conferences, conference, picture);
+                self.asked = None;
                 Ok(())
             }
             _ => Err(FollowFault::Unasked),
         }
     }
 
-    /// Takes the rows that were told as the whole answer about a conference.
-    fn answer(&mut self, conference: u32, next: Option<u64>) -> Result<(), AllocError>
-        ensures took { OnOk result (self.new ≡ spec.with_answer conference next self.old) }
-    {
-        let rows = std::mem::replace(&mut self.rows, Facts::new(self.alloc));
-        answer_in(&mut self.conferences, conference, rows, next)?;
-        self.asked = None;
-        Ok(())
-    }
-
-    /// Takes it that what was asked isn't done: the conference is asked for anew, where it is listed again.
+    /// Takes it that the conference isn't there that was asked for.
     fn refused(&mut self) -> Result<(), FollowFault>
         ensures took { OnOk result (spec.with_refusal self.old ≡ Ok self.new) }
-        ensures refused { IfErr result (λ fault. (fault ≡ Memory)
-            ⊎ (spec.with_refusal self.old ≡ Err fault)) }
-        ensures left { result ≡ Err Unasked → self.new ≡ self.old }
+        ensures refused { IfErr result (λ fault. spec.with_refusal self.old ≡ Err fault) }
     {
         match self.asked {
-            None | Some(Question::List) => Err(FollowFault::Unasked),
-            Some(
-                Question::Floors(conference)
-                | Question::Users(conference)
-                | Question::Members(conference)
-                | Question::Words(conference)
-                | Question::Watch { conference, .. },
-            ) => {
-                self.asked = None;
-                self.rows = Facts::new(self.alloc);
+            Some(Question::Picture(conference)) => {
                 drop_conference(&mut self.conferences, conference);
+                self.asked = None;
                 Ok(())
             }
+            _ => Err(FollowFault::Unasked),
         }
     }
 }
 
-/// Whether of each conference all was told that is asked first.
-fn all_followed(conferences: &[Conference]) -> bool
-    ensures value { result ≡ list_all is_followed conferences.now }
+fn is_told(listing: Listing) -> bool
+    ensures value { result ≡ spec.is_told listing }
+{
+    match listing {
+        Listing::Due(_) => false,
+        Listing::Told => true,
+    }
+}
+
+fn all_pictured(conferences: &[Conference]) -> bool
+    ensures value { result ≡ list_all spec.is_pictured conferences.now }
 {
     conferences
         .iter()
-        .all(|conference| conference.is_followed())
+        .all(|conference| is_pictured(conference))
 }
 
-/// A new round begins for each conference.
-fn begin_rounds(conferences: &mut Vec<Conference>)
-    ensures next { conferences.new.items ≡ map due conferences.old.items }
+fn is_pictured(conference: &Conference) -> bool
+    ensures value { result ≡ spec.is_pictured conference.now }
 {
-    for conference in conferences.iter_mut() {
-        conference.begin_round();
-    }
+    conference.picture.is_some()
 }
 
-/// No conference is listed yet.
-fn begin_list(conferences: &mut Vec<Conference>)
-    ensures next { conferences.new.items ≡ map spec.unlisted conferences.old.items }
-{
-    for conference in conferences.iter_mut() {
-        unlist(conference);
-    }
-}
-
-fn unlist(conference: &mut Conference)
-    ensures next { conference.new ≡ spec.unlisted conference.old }
-{
-    conference.is_listed = false;
-}
-
-/// The list has ended: a conference that isn't in it was forgotten.
-fn end_list(conferences: &mut Vec<Conference>)
-    ensures next { conferences.new.items ≡ filter (λ k. k.is_listed) conferences.old.items }
-{
-    conferences.retain(|conference| conference.is_listed);
-}
-
-/// The question of the first conference of which something is to be asked.
+/// The question for the first conference that is to be asked for.
 fn first_question(conferences: &[Conference]) -> Option<Question>
     ensures value { result ≡ spec.first_question conferences.now }
 {
     match first_due(conferences) {
         None => None,
-        Some(conference) => question_of(conference),
+        Some(conference) => Some(Question::Picture(conference.number)),
     }
 }
 
 fn first_due(conferences: &[Conference]) -> Option<&Conference>
-    ensures found { option_copied result ≡ find spec.is_due conferences.now }
+    ensures found { option_copied result ≡ find (λ k. k.is_due) conferences.now }
 {
-    conferences.iter().find(|conference| is_due(conference))
-}
-
-/// Whether something is to be asked of a conference.
-fn is_due(conference: &Conference) -> bool
-    ensures value { result ≡ spec.is_due conference.now }
-{
-    !matches!(conference.stage, Stage::Followed)
-}
-
-/// What is to be asked of a conference.
-fn question_of(conference: &Conference) -> Option<Question>
-    ensures value { result ≡ spec.question_of conference.now }
-{
-    let number = conference.number;
-    match conference.stage {
-        Stage::Floors => Some(Question::Floors(number)),
-        Stage::Users => Some(Question::Users(number)),
-        Stage::Members => Some(Question::Members(number)),
-        Stage::Words | Stage::Again => Some(Question::Words(number)),
-        Stage::Watch => Some(Question::Watch {
-            conference: number,
-            from: conference.from,
-        }),
-        Stage::Followed => None,
-    }
+    conferences.iter().find(|conference| conference.is_due)
 }
 
 /// Where the first conference with the number stands.
@@ -328,60 +253,45 @@ fn place_of(conferences: &[Conference], number: u32) -> Option<usize>
         .position(|conference| conference.number == number)
 }
 
-/// Takes what a live line changes in its conference. What is told of one that isn't known changes nothing.
-fn change_in(
-    conferences: &mut Vec<Conference>,
-    number: u32,
-    change: Change,
-) -> Result<(), AllocError>
-    ensures next { OnOk result (conferences.new.items
-        ≡ spec.over_first (spec.is_number number) (changed change) conferences.old.items) }
+/// A conference is asked for: it isn't to be, until it changes again.
+fn take_as_asked(conferences: &mut Vec<Conference>, number: u32)
+    ensures next { conferences.new.items
+        ≡ spec.over_first (spec.is_number number) spec.taken_as_asked conferences.old.items }
 {
     match place_of(conferences, number) {
-        None => Ok(()),
-        Some(place) => conferences[place].change(change),
+        None => {}
+        Some(place) => set_due(&mut conferences[place], false),
     }
 }
 
-/// Takes the answer of what was asked of a conference.
-fn answer_in(
-    conferences: &mut Vec<Conference>,
-    number: u32,
-    rows: Facts,
-    next: Option<u64>,
-) -> Result<(), AllocError>
-    ensures next { OnOk result (conferences.new.items
-        ≡ spec.over_first (spec.is_number number) (answered rows next) conferences.old.items) }
+fn set_due(conference: &mut Conference, is_due: bool)
+    ensures next { conference.new ≡ record conference.old { is_due = is_due } }
 {
-    match place_of(conferences, number) {
-        None => Ok(()),
-        Some(place) => conferences[place].take_answer(rows, next),
-    }
+    conference.is_due = is_due;
 }
 
-/// Takes it that a conference is listed.
-fn list_in(
-    alloc: Global,
-    conferences: &mut Vec<Conference>,
-    listed: Listed,
-) -> Result<(), AllocError>
+/// A conference is to be asked for; one that isn't known is from now on.
+fn make_due(conferences: &mut Vec<Conference>, number: u32) -> Result<(), AllocError>
     ensures next { OnOk result (conferences.new.items
-        ≡ spec.listed_in listed conferences.old.items) }
+        ≡ spec.made_due number conferences.old.items) }
 {
-    let Listed {
-        conference,
-        phase,
-        events,
-    } = listed;
-    match place_of(conferences, conference) {
-        None => push(
-            conferences,
-            Conference::new(alloc, conference, phase, events),
-        ),
+    match place_of(conferences, number) {
+        None => push(conferences, unknown(number)),
         Some(place) => {
-            conferences[place].list(phase, events);
+            set_due(&mut conferences[place], true);
             Ok(())
         }
+    }
+}
+
+/// A conference of which nothing was told.
+fn unknown(number: u32) -> Conference
+    ensures value { result ≡ spec.unknown number }
+{
+    Conference {
+        number,
+        is_due: true,
+        picture: None,
     }
 }
 
@@ -394,7 +304,58 @@ fn push(conferences: &mut Vec<Conference>, conference: Conference) -> Result<(),
     }
 }
 
-/// Drops a conference: where it is listed again it is asked for from the beginning.
+/// Has each listed conference asked for.
+fn add_listed(conferences: &mut Vec<Conference>, listed: &[u32]) -> Result<(), AllocError>
+    ensures next { OnOk result (conferences.new.items
+        ≡ spec.all_due listed.now conferences.old.items) }
+{
+    for number in listed {
+        make_due(conferences, *number)?;
+    }
+    Ok(())
+}
+
+/// How far the list was told by this part of it.
+fn listing_behind(listed: &Listed) -> Listing
+    ensures value { result ≡ spec.listing_behind listed.now }
+{
+    if !listed.has_more {
+        return Listing::Told;
+    }
+    match last_of(listed.conferences.as_slice()) {
+        None => Listing::Told,
+        Some(last) => Listing::Due(Some(last)),
+    }
+}
+
+fn last_of(listed: &[u32]) -> Option<u32>
+    ensures value { result ≡ spec.last_of None listed.now }
+{
+    let mut last = None;
+    for number in listed {
+        last = Some(*number);
+    }
+    last
+}
+
+/// Takes what a conference is. One that isn't known any more stays unknown.
+fn put_picture(conferences: &mut Vec<Conference>, number: u32, picture: Picture)
+    ensures next { conferences.new.items
+        ≡ spec.over_first (spec.is_number number) (spec.pictured picture) conferences.old.items }
+{
+    match place_of(conferences, number) {
+        None => {}
+        Some(place) => set_picture(&mut conferences[place], picture),
+    }
+}
+
+fn set_picture(conference: &mut Conference, picture: Picture)
+    ensures next { conference.new ≡ spec.pictured picture conference.old }
+{
+    conference.picture = Some(picture);
+}
+
+/// Drops a conference: it isn't there any more.
 fn drop_conference(conferences: &mut Vec<Conference>, number: u32)
     ensures next { conferences.new.items
         ≡ filter (λ k. not (k.number == number)) conferences.old.items }

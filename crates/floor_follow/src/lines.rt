@@ -8,9 +8,8 @@ use floor_config::Text;
 use std::alloc::{AllocError, Global};
 use std::marker::Model;
 
-/// How many bytes a line has at most without its line feed: the longest is a word of 65,536 bytes in
-/// hexadecimal, or a floor that all requests of a conference are for.
-pub const MAX_LINE_LEN: usize = 262_144;
+/// How many bytes a line has at most without its line feed: the server tells no longer one.
+pub const MAX_LINE_LEN: usize = 1_048_576;
 
 /// What comes next.
 #[derive(Drop)]

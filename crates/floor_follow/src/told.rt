@@ -1,132 +1,130 @@
 //! What a line of the control socket tells.
 
 ghost use Rattle.std.specs.Prelude.{◌≡◌};
-ghost use Rattle.floor_follow.specs.Reading.{Reads};
+ghost use Rattle.json.specs.Json.{document};
+ghost use Rattle.json.specs.Value.{value_view};
+ghost use Rattle.floor_follow.specs.Values.{Reads};
 ghost use Rattle.floor_follow.specs.Told as spec;
 
-use crate::change::Change;
-use crate::fact::Facts;
+use crate::conference::Picture;
 use crate::fault::FollowFault;
-use crate::live::{event, notice};
-use crate::rest::Rest;
-use crate::row::row;
-use floor_room::Phase;
+use crate::reading::picture_of;
+use crate::values::{flag_at, list_at, u32_at};
+use floor_rpc::List;
+use json::{Error, Scratch, Value};
 use std::alloc::Global;
 
-/// How a conference is listed.
-#[derive(Clone, Copy)]
+/// A part of the list of the conferences.
+#[derive(Drop)]
 pub struct Listed {
-    /// The conference.
-    pub conference: u32,
-    /// Whether it runs.
-    pub phase: Phase,
-    /// How many events it had.
-    pub events: u64,
+    /// The conferences, ascending.
+    pub conferences: List<u32>,
+    /// Whether others stand behind them.
+    pub has_more: bool,
 }
 
 /// What a line tells.
 #[derive(Drop)]
 pub enum Told {
-    /// What became of a conference that is watched.
-    Live { conference: u32, change: Change },
-    /// A line of an answer, of the conference that was asked about.
-    Row(Facts),
-    /// A line of the list of the conferences.
+    /// A conference is otherwise than it was, or was opened.
+    Changed(u32),
+    /// It was forgotten.
+    Forgotten(u32),
+    /// What no picture shows.
+    Nothing,
+    /// All are watched.
+    Watched,
+    /// Conferences.
     Listed(Listed),
-    /// The end of an answer, with the next place of the journal where that is said.
-    End { next: Option<u64> },
-    /// What was asked is done.
-    Done,
+    /// What the conference is that was asked for.
+    Pictured(Picture),
     /// What was asked isn't done.
     Refused,
 }
 
-/// What a line tells, which has no line feed and no tag. Of what is wrong with it the first from the left is
-/// told.
-pub fn read_line(alloc: Global, line: &str) -> Result<Told, FollowFault>
-    ensures value { Reads (spec.told line.now) result }
+/// What a line tells, which has no line feed. `scratch` is room that is kept from line to line.
+pub fn read_line(alloc: Global, scratch: &mut Scratch, line: &str) -> Result<Told, FollowFault>
+    ensures value { Reads (spec.told (document line.now)) result }
 {
-    let (name, rest) = Rest::of(line).word()?;
-    match name.as_str() {
-        "!" => live(alloc, rest),
-        "~" => noticed(alloc, rest),
-        "conference" => conference(rest),
-        "end" => end(rest),
-        "ok" => Ok(Told::Done),
-        "error" => Ok(Told::Refused),
-        _ => Ok(Told::Row(row(alloc, name, rest)?)),
+    match Value::parse(alloc, line, scratch) {
+        Ok(value) => told_by(alloc, &value),
+        Err(Error::OutOfMemory) => Err(FollowFault::Memory),
+        Err(_) => Err(FollowFault::UnknownLine),
     }
 }
 
-/// `<c> <place> ..`
-fn live(alloc: Global, text: Rest) -> Result<Told, FollowFault>
-    ensures { Reads (spec.live text.entry) result }
+fn told_by(alloc: Global, value: &Value<'_>) -> Result<Told, FollowFault>
+    ensures { Reads (spec.told_by (value_view value.now)) result }
 {
-    let (conference, rest) = text.number32()?;
-    let (_place, rest) = rest.place()?;
-    let change = event(alloc, rest)?;
-    Ok(Told::Live { conference, change })
+    match value.get("params") {
+        Some(params) => notified(params),
+        None => answered(alloc, value),
+    }
 }
 
-/// `<c> ..`
-fn noticed(alloc: Global, text: Rest) -> Result<Told, FollowFault>
-    ensures { Reads (spec.noticed text.entry) result }
+/// What a notification tells.
+fn notified(params: &Value<'_>) -> Result<Told, FollowFault>
+    ensures { result ≡ spec.notified (value_view params.now) }
 {
-    let (conference, rest) = text.number32()?;
-    let change = notice(alloc, rest)?;
-    Ok(Told::Live { conference, change })
+    let conference = u32_at(params, "conference")?;
+    match params.get("what") {
+        None => Err(FollowFault::UnknownLine),
+        Some(what) => match what.get("event") {
+            None => Err(FollowFault::UnknownLine),
+            Some(event) => match event.as_str() {
+                None => Err(FollowFault::UnknownLine),
+                Some(event) => Ok(told_of(conference, event)),
+            },
+        },
+    }
 }
 
-/// `<c> members <m> ongoing <k> events <e> <phase> [unkept]`
-fn conference(text: Rest) -> Result<Told, FollowFault>
-    ensures { result ≡ spec.listed text.entry }
+/// What an event tells of a conference. A floor request changes nothing in a picture: it has none.
+fn told_of(conference: u32, event: &str) -> Told
+    ensures { result ≡ spec.told_of conference event.now }
 {
-    let (conference, rest) = text.number32()?;
-    let (_members, rest) = rest.behind("members")?.number32()?;
-    let (_ongoing, rest) = rest.behind("ongoing")?.number32()?;
-    let (events, rest) = rest.behind("events")?.place()?;
-    let (word, rest) = rest.word()?;
-    let phase = phase(word)?;
-    let rest = unkept_mark(rest)?;
-    rest.end()?;
-    Ok(Told::Listed(Listed {
-        conference,
-        phase,
-        events,
-    }))
+    match event {
+        "message" | "revoked" | "unkept" => Told::Nothing,
+        "forgotten" => Told::Forgotten(conference),
+        _ => Told::Changed(conference),
+    }
 }
 
-/// The phase of this name.
-fn phase(name: Rest) -> Result<Phase, FollowFault>
-    ensures { result ≡ spec.phase name.entry }
+/// What an answer tells.
+fn answered(alloc: Global, value: &Value<'_>) -> Result<Told, FollowFault>
+    ensures { Reads (spec.answered (value_view value.now)) result }
 {
-    match name.as_str() {
-        "open" => Ok(Phase::Running),
-        "ended" => Ok(Phase::Ended),
-        "broken" => Ok(Phase::Broken),
+    match value.get("result") {
+        None => Ok(Told::Refused),
+        Some(result) => match value.get("id") {
+            None => Err(FollowFault::UnknownLine),
+            Some(id) => match id.as_str() {
+                None => Err(FollowFault::UnknownLine),
+                Some(id) => answer_of(alloc, id, result),
+            },
+        },
+    }
+}
+
+/// What answers the question of this id.
+fn answer_of(alloc: Global, id: &str, value: &Value<'_>) -> Result<Told, FollowFault>
+    ensures { Reads (spec.answer_of id.now (value_view value.now)) result }
+{
+    match id {
+        "watch" => Ok(Told::Watched),
+        "list" => Ok(Told::Listed(part_of_list(alloc, value)?)),
+        "picture" => Ok(Told::Pictured(picture_of(alloc, value)?)),
         _ => Err(FollowFault::UnknownLine),
     }
 }
 
-/// What is left behind `unkept`, where that stands there.
-fn unkept_mark(text: Rest<'_>) -> Result<Rest<'_>, FollowFault>
-    ensures { result ≡ spec.unkept_mark text.entry }
+fn part_of_list(alloc: Global, value: &Value<'_>) -> Result<Listed, FollowFault>
+    ensures { Reads (spec.listed (value_view value.now)) result }
 {
-    if text.begins_with("unkept") {
-        return text.behind("unkept");
-    }
-    Ok(text)
-}
-
-/// `<count> [<next place>]`
-fn end(text: Rest) -> Result<Told, FollowFault>
-    ensures { result ≡ spec.ending text.entry }
-{
-    let (_count, rest) = text.place()?;
-    if rest.is_empty() {
-        return Ok(Told::End { next: None });
-    }
-    let (next, rest) = rest.place()?;
-    rest.end()?;
-    Ok(Told::End { next: Some(next) })
+    let conferences = list_at(alloc, value, "conferences")?;
+    let has_more = flag_at(value, "more")?;
+    Ok(Listed {
+        conferences,
+        has_more,
+    })
 }

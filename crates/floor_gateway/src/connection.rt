@@ -1,18 +1,19 @@
 //! One connection: a request, and what follows it.
 
+use crate::carrier::Carrier;
 use crate::entry::{Entry, Place};
-use crate::gateway::{Gateway, Role, Seat, Whom};
+use crate::gateway::{Gateway, Seat, Whom};
 use crate::head::{HeadEnd, read_head};
-use crate::listener::{Changed, Listener};
+use crate::listener::Listener;
 use crate::network::network_of;
-use crate::ordering::{Answer, obey_operator, obey_user};
+use crate::ordering::{Answer, obey_user};
 use crate::pair::{Pair, linger};
-use crate::server::{Reached, prepare, reach};
+use crate::server::{Reached, call_at, prepare, reach};
 use crate::unserved::Unserved;
 use floor_listen::Granted;
 use floor_web::{
-    Admission, Asked, End, Giver, Holder, Kind, NoPlace, Reading, Refusal, Relay, Source,
-    is_strong_token, meeting_of, read_request, refuse, serve, stream, welcome,
+    Admission, Asked, CallRelay, End, Holder, Kind, NoPlace, Protocol, Reading, Refusal, Relay,
+    Role, Source, is_strong_token, read_request, refuse, serve, stream, welcome,
 };
 use std::alloc::Global;
 use std::io::Write;
@@ -29,9 +30,6 @@ const LOOKS: u32 = 15;
 
 /// What a page is told that asks for what changes, where no control socket is followed.
 const NOTHING_LIVE: &[u8] = b"{\"live\":false}\n";
-
-/// What the operator's page is told first where it may order nothing.
-const OBSERVES: &[u8] = b"{\"role\":\"observe\"}\n";
 
 /// How long it waits between two looks, in milliseconds.
 const LOOK_MILLIS: u64 = 100;
@@ -260,30 +258,143 @@ where
             token,
             is_head,
         } => tell(rt, alloc, gateway, stream, client, source, token, is_head),
-        Asked::Order {
-            giver,
+        Asked::Order { token, order } => obey(&rt, alloc, gateway, &stream, token, order),
+        Asked::Socket {
+            protocol: Protocol::Bfcp,
             token,
-            order,
-        } => obey(&rt, alloc, gateway, &stream, client, giver, token, order),
-        Asked::Bfcp { token, accept } => match seat_of(&rt, gateway, token) {
-            Some(seat) if seat.is_ended => {
-                lack_server(&rt, alloc, gateway, &seat, &stream, &accept)
+            accept,
+        } => take_part(rt, alloc, gateway, stream, client, token, &accept, behind),
+        Asked::Socket {
+            protocol: Protocol::JsonRpc,
+            token,
+            accept,
+        } => call(rt, alloc, gateway, stream, client, token, &accept, behind),
+    }
+}
+
+/// Lets the user with the token take part.
+fn take_part<R>(
+    rt: R,
+    alloc: Global,
+    gateway: &Gateway,
+    stream: TcpStream,
+    client: Client,
+    token: &[u8],
+    accept: &[u8; 28],
+    behind: &[u8],
+) -> Result<(), Unserved>
+where
+    R: Net<Listener = TcpListener, Stream = TcpStream>
+        + Clock
+        + Threads
+        + Wait
+        + Copy
+        + Drop
+        + Send
+        + 'static,
+{
+    match seat_of(&rt, gateway, token) {
+        Some(seat) if seat.is_ended => lack_server(&rt, alloc, gateway, &seat, &stream, accept),
+        Some(seat) if seat.admission != Admission::Admitted => {
+            answer_refusal(&rt, alloc, gateway, &stream, Refusal::Forbidden, false)
+        }
+        Some(seat) => {
+            let holder = holder_of(&seat, client);
+            if let Err(why) = gateway.take_place(&rt, holder) {
+                return answer_no_place(&rt, alloc, gateway, &stream, why, accept);
             }
-            Some(seat) if seat.admission != Admission::Admitted => {
-                answer_refusal(&rt, alloc, gateway, &stream, Refusal::Forbidden, false)
-            }
-            Some(seat) => {
-                let holder = holder_of(&seat, client);
-                if let Err(why) = gateway.take_place(&rt, holder) {
-                    return answer_no_place(&rt, alloc, gateway, &stream, why, &accept);
-                }
-                gateway.end_request(&rt, client.request);
-                let served = connect(rt, alloc, gateway, &seat, stream, &accept, behind);
-                gateway.give_place_back(&rt, holder);
-                served
-            }
-            None => answer_refusal(&rt, alloc, gateway, &stream, Refusal::NotFound, false),
-        },
+            gateway.end_request(&rt, client.request);
+            let served = connect(rt, alloc, gateway, &seat, stream, accept, behind);
+            gateway.give_place_back(&rt, holder);
+            served
+        }
+        None => answer_refusal(&rt, alloc, gateway, &stream, Refusal::NotFound, false),
+    }
+}
+
+/// Lets whoever has the token call what its role may.
+fn call<R>(
+    rt: R,
+    alloc: Global,
+    gateway: &Gateway,
+    stream: TcpStream,
+    client: Client,
+    token: &[u8],
+    accept: &[u8; 28],
+    behind: &[u8],
+) -> Result<(), Unserved>
+where
+    R: Net<Listener = TcpListener, Stream = TcpStream>
+        + Clock
+        + Threads
+        + Wait
+        + Copy
+        + Drop
+        + Send
+        + 'static,
+{
+    let Some((token, role)) = gateway.roles.find(token) else {
+        return close_at_once(&rt, alloc, gateway, &stream, Refusal::NotFound, accept);
+    };
+    if !gateway.enter_caller(&rt, token) {
+        return close_at_once(&rt, alloc, gateway, &stream, Refusal::TooMany, accept);
+    }
+    gateway.end_request(&rt, client.request);
+    let served = carry_calls(rt, alloc, gateway, role, stream, accept, behind);
+    gateway.leave_caller(&rt, token);
+    served
+}
+
+/// Connects to the server's socket for a role, and then makes the connection a WebSocket.
+fn carry_calls<R>(
+    rt: R,
+    alloc: Global,
+    gateway: &Gateway,
+    role: Role,
+    stream: TcpStream,
+    accept: &[u8; 28],
+    behind: &[u8],
+) -> Result<(), Unserved>
+where
+    R: Net<Listener = TcpListener, Stream = TcpStream>
+        + Clock
+        + Threads
+        + Wait
+        + Copy
+        + Drop
+        + Send
+        + 'static,
+{
+    let (path, acts_at) = match role {
+        Role::Observe => (&gateway.observe, None),
+        Role::Operate => (&gateway.observe, copied(alloc, &gateway.control)?),
+        Role::Bridge => (&gateway.control, None),
+    };
+    let Some(server) = call_at(&rt, path) else {
+        return answer_refusal(&rt, alloc, gateway, &stream, Refusal::BadGateway, false);
+    };
+    let welcome = welcome(alloc, Protocol::JsonRpc, accept)?;
+    let carrier = Carrier::Calls(CallRelay::new(alloc, role));
+    let pair = Pair::new(alloc, stream, server, carrier, acts_at);
+    let end = carry(
+        rt,
+        alloc,
+        gateway,
+        pair,
+        welcome.as_slice(),
+        behind,
+        &Entry::Calls(role),
+    )?;
+    if let Some(end) = end {
+        gateway.tell(&rt, &Entry::CallsNoMore(role, end));
+    }
+    Ok(())
+}
+
+fn copied(alloc: Global, text: &Option<String>) -> Result<Option<String>, Unserved> {
+    match text {
+        Some(text) => Ok(Some(String::from_str(alloc, text.as_str())?)),
+        None => Ok(None),
     }
 }
 
@@ -354,25 +465,6 @@ where
     R: Clock + Threads + Wait + Copy + Drop + Send + 'static,
 {
     match source {
-        Source::Operator => {
-            let first = match gateway.role(token) {
-                Some(Role::Operates) => b"".as_slice(),
-                Some(Role::Observes) => OBSERVES,
-                None => {
-                    let refusal = Refusal::NotFound;
-                    return answer_refusal(&rt, alloc, gateway, &stream, refusal, is_head);
-                }
-            };
-            let Some(granted) = gateway.enter_operator(&rt) else {
-                let refusal = Refusal::Unavailable;
-                return answer_refusal(&rt, alloc, gateway, &stream, refusal, is_head);
-            };
-            let place = granted.taken();
-            gateway.end_request(&rt, client.request);
-            let told = go_on_telling(&rt, alloc, gateway, stream, None, first, is_head);
-            gateway.leave_operator(&rt, place);
-            told
-        }
         Source::Live => match seat_of(&rt, gateway, token) {
             Some(seat) if gateway.control.is_some() => {
                 let holder = holder_of(&seat, client);
@@ -381,8 +473,7 @@ where
                     return answer_refusal(&rt, alloc, gateway, &stream, refusal, is_head);
                 }
                 gateway.end_request(&rt, client.request);
-                let place = Some(Place::of(&seat));
-                let told = go_on_telling(&rt, alloc, gateway, stream, place, b"", is_head);
+                let told = go_on_telling(&rt, alloc, gateway, stream, Place::of(&seat), is_head);
                 gateway.give_place_back(&rt, holder);
                 told
             }
@@ -414,19 +505,12 @@ fn meeting_text<R: Clock + Wait>(
 ) -> Result<Option<String>, Unserved> {
     let seat = match whom_of(rt, gateway, token) {
         Some(Whom::User(seat)) => seat,
-        Some(Whom::Guest(conference)) => return Ok(gateway.welcome(rt, conference)?),
+        Some(Whom::Guest(conference)) => return Ok(gateway.told(rt, conference, None)?),
         None => return Ok(None),
     };
-    {
-        let picture = gateway.picture.lock(rt);
-        if let Some(follower) = &*picture {
-            if let Some(conference) = follower.conference(seat.conference) {
-                let text = meeting_of(alloc, conference, seat.user, &gateway.titles)?;
-                if text.is_some() {
-                    return Ok(text);
-                }
-            }
-        }
+    let told = gateway.told(rt, seat.conference, Some(seat.user))?;
+    if told.is_some() {
+        return Ok(told);
     }
     match gateway.meeting_in_file(token) {
         Some(text) => Ok(Some(String::from_str(alloc, text)?)),
@@ -434,22 +518,20 @@ fn meeting_text<R: Clock + Wait>(
     }
 }
 
-/// Tells a page what comes first, what is known, and what changes, until it goes.
+/// Tells a user's page what is known, and what changes, until it goes.
 fn go_on_telling<R: Clock + Wait>(
     rt: &R,
     alloc: Global,
     gateway: &Gateway,
     stream_to: TcpStream,
-    place: Option<Place>,
-    first: &[u8],
+    place: Place,
     is_head: bool,
 ) -> Result<(), Unserved> {
-    let mut head = stream(alloc)?;
+    let head = stream(alloc)?;
     if is_head {
         send_last(rt, &stream_to, head.as_slice());
         return Ok(());
     }
-    head.extend_from_slice(first)?;
     let listener = Arc::new(alloc, Listener::new(alloc, stream_to, place))?;
     if !listener.open(head.as_slice()) {
         return Ok(());
@@ -459,7 +541,7 @@ fn go_on_telling<R: Clock + Wait>(
         // It may have hung up for all others before.
         listener.hang_up();
     }
-    listener.tell(rt, gateway, &Changed::all(alloc));
+    listener.tell(rt, gateway, None);
     listener.wait(rt);
     gateway.unlisten(rt, key);
     Ok(())
@@ -471,27 +553,14 @@ fn obey<R>(
     alloc: Global,
     gateway: &Gateway,
     stream: &TcpStream,
-    client: Client,
-    giver: Giver,
     token: &[u8],
     order: &[u8],
 ) -> Result<(), Unserved>
 where
     R: Net<Listener = TcpListener, Stream = TcpStream> + Clock + Wait,
 {
-    let answer = match giver {
-        Giver::Operator => {
-            if gateway.role(token) == Some(Role::Operates) {
-                gateway.end_request(rt, client.request);
-            }
-            obey_operator(rt, alloc, gateway, token, order)?
-        }
-        Giver::User => {
-            let whom = whom_of(rt, gateway, token);
-            obey_user(rt, alloc, gateway, whom, order)?
-        }
-    };
-    match answer {
+    let whom = whom_of(rt, gateway, token);
+    match obey_user(rt, alloc, gateway, whom, order)? {
         Answer::Says(text) => {
             let answer = serve(alloc, Kind::Text, text.as_bytes(), false)?;
             send_last(rt, stream, answer.as_slice());
@@ -556,32 +625,61 @@ where
         }
     };
     // All memory is had before the browser is told that it has a WebSocket.
-    let welcome = welcome(alloc, accept)?;
-    let pair = Arc::new(alloc, Pair::new(alloc, stream, server))?;
+    let welcome = welcome(alloc, Protocol::Bfcp, accept)?;
+    let carrier = Carrier::Bfcp(Relay::new(alloc));
+    let pair = Pair::new(alloc, stream, server, carrier, None);
+    let place = Place::of(seat);
+    let joined = Entry::Joined(place);
+    let end = carry(rt, alloc, gateway, pair, welcome.as_slice(), behind, &joined)?;
+    if let Some(end) = end {
+        gateway.tell(&rt, &Entry::Left(place, end));
+    }
+    Ok(())
+}
+
+/// Carries what both sides of a pair send, until one ends. Gives how it ended, if it began.
+fn carry<R>(
+    rt: R,
+    alloc: Global,
+    gateway: &Gateway,
+    pair: Pair,
+    welcome: &[u8],
+    behind: &[u8],
+    began: &Entry<'_>,
+) -> Result<Option<End>, Unserved>
+where
+    R: Net<Listener = TcpListener, Stream = TcpStream>
+        + Clock
+        + Threads
+        + Wait
+        + Copy
+        + Drop
+        + Send
+        + 'static,
+{
+    let pair = Arc::new(alloc, pair)?;
     let theirs = Arc::try_clone(&pair)?;
     let key = gateway.add(&rt, &pair)?;
     if gateway.is_ending() {
         // It may have hung up for all others before.
         pair.hang_up();
     }
-    if !pair.open(welcome.as_slice()) {
+    if !pair.open(welcome) {
         gateway.remove(&rt, key);
-        return Ok(());
+        return Ok(None);
     }
     let started = thread::spawn(&rt, move || theirs.carry_down(&rt));
     let Ok(other) = started else {
         gateway.remove(&rt, key);
         return Err(Unserved::NoThread);
     };
-    let place = Place::of(seat);
-    gateway.tell(&rt, &Entry::Joined(place));
+    gateway.tell(&rt, began);
     pair.carry_up(&rt, behind);
     pair.hang_up();
     other.join(&rt);
     gateway.remove(&rt, key);
     let end = pair.part(&rt);
-    gateway.tell(&rt, &Entry::Left(place, end.unwrap_or(End::Gone)));
-    Ok(())
+    Ok(Some(end.unwrap_or(End::Gone)))
 }
 
 /// Makes the connection a WebSocket, and closes it by the code for a server that isn't there.
@@ -594,7 +692,7 @@ fn lack_server<R: Clock + Wait>(
     accept: &[u8; 28],
 ) -> Result<(), Unserved> {
     gateway.tell(rt, &Entry::NoServer(Place::of(seat)));
-    let mut answer = welcome(alloc, accept)?;
+    let mut answer = welcome(alloc, Protocol::Bfcp, accept)?;
     Relay::new(alloc).lack_server(&mut answer);
     send_last(rt, stream, answer.as_slice());
     Ok(())
@@ -614,8 +712,30 @@ fn answer_no_place<R: Clock + Wait>(
         return answer_refusal(rt, alloc, gateway, stream, refusal_of(why), false);
     }
     gateway.tell(rt, &Entry::Refused(Refusal::TooMany));
-    let mut answer = welcome(alloc, accept)?;
+    let mut answer = welcome(alloc, Protocol::Bfcp, accept)?;
     Relay::new(alloc).refuse(&mut answer);
+    send_last(rt, stream, answer.as_slice());
+    Ok(())
+}
+
+/// Makes a connection a WebSocket of calls, and closes it by a code of its own: 4404 for nobody's token, 4403 where the
+/// token has as many as one may. The status of a handshake, which could say it too, is kept from a page.
+fn close_at_once<R: Clock + Wait>(
+    rt: &R,
+    alloc: Global,
+    gateway: &Gateway,
+    stream: &TcpStream,
+    refusal: Refusal,
+    accept: &[u8; 28],
+) -> Result<(), Unserved> {
+    gateway.tell(rt, &Entry::Refused(refusal));
+    let mut answer = welcome(alloc, Protocol::JsonRpc, accept)?;
+    let mut relay = Relay::new(alloc);
+    if refusal == Refusal::NotFound {
+        relay.lack_server(&mut answer);
+    } else {
+        relay.refuse(&mut answer);
+    }
     send_last(rt, stream, answer.as_slice());
     Ok(())
 }

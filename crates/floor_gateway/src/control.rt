@@ -2,11 +2,9 @@
 //!
 //! What is known is kept while the socket is lost, and a picture of another run is shown once it is whole.
 
-use crate::entry::{Entry, Place};
-use crate::gateway::{Gateway, Leaving};
-use crate::listener::{Changed, tell_all};
-use crate::order;
-use floor_follow::{FollowFault, Follower, Lines, NextLine, Question, Told, read_line};
+use crate::gateway::Gateway;
+use crate::listener::tell_all;
+use floor_follow::{FollowFault, Follower, Lines, NextLine, Scratch, read_line};
 use std::alloc::{AllocError, Global};
 use std::io::{ErrorKind, Read, Write};
 use std::net::{Net, TcpListener, TcpStream};
@@ -14,13 +12,10 @@ use std::os::unix::net::UnixStream;
 use std::sync::{Arc, Wait};
 use std::thread;
 use std::thread::Threads;
-use std::time::{Clock, Duration, Instant};
+use std::time::{Clock, Duration};
 
-/// How long a read waits until it is looked whether something is to be asked again, in milliseconds.
+/// How long a read waits until it is looked whether the gateway ends, in milliseconds.
 const LOOK_MILLIS: u64 = 250;
-
-/// How often the list and the words are asked for, in milliseconds: no live line tells of them.
-const ROUND_MILLIS: u64 = 1_000;
 
 /// How long it waits before a lost control socket is tried again, in milliseconds.
 const AGAIN_MILLIS: u64 = 500;
@@ -39,9 +34,9 @@ where
         }
         if let Ok(stream) = UnixStream::connect(&rt, path) {
             // Whatever ends it, it is followed anew.
-            let _outcome = follow_one(rt, alloc, gateway, path, stream);
+            let _outcome = follow_one(rt, alloc, gateway, stream);
             gateway.lose();
-            tell_all(&rt, gateway, &Changed::all(alloc));
+            tell_all(&rt, gateway, None);
         }
         thread::sleep(&rt, Duration::from_millis(AGAIN_MILLIS));
     }
@@ -52,12 +47,9 @@ where
 struct Following {
     stream: UnixStream,
     lines: Lines,
+    scratch: Scratch,
     /// What is known of it, until that is whole and is shown.
     fresh: Option<Follower>,
-    asked: Option<Question>,
-    /// Whether its answer hasn't ended yet.
-    is_awaited: bool,
-    changed: Changed,
 }
 
 /// Follows one control socket until it ends.
@@ -65,42 +57,25 @@ fn follow_one<R>(
     rt: R,
     alloc: Global,
     gateway: &Gateway,
-    path: &str,
     stream: UnixStream,
 ) -> Result<(), FollowFault>
 where
-    R: Net<Listener = TcpListener, Stream = TcpStream> + Clock + Wait + Copy,
+    R: Clock + Wait + Copy,
 {
     let _outcome = stream.set_read_timeout(Some(Duration::from_millis(LOOK_MILLIS)));
     let _outcome = stream.set_write_timeout(Some(Duration::from_secs(WRITE_SECONDS)));
     let mut following = Following {
         stream,
         lines: Lines::new(alloc),
+        scratch: Scratch::new(alloc),
         fresh: Some(Follower::new(alloc)),
-        asked: None,
-        is_awaited: false,
-        changed: Changed::none(alloc),
     };
-    let Ok(mut round) = Instant::now(&rt) else {
+    if !following.ask(&rt, alloc, gateway)? {
         return Ok(());
-    };
+    }
     for _ in rt.forever() {
-        if gateway.is_ending() || !following.ask(&rt, alloc, gateway)? {
+        if gateway.is_ending() || !following.read(&rt, alloc, gateway)? {
             return Ok(());
-        }
-        if !following.read(&rt, alloc, gateway)? {
-            return Ok(());
-        }
-        following.show(&rt, alloc, gateway, path);
-        let Ok(spent) = round.elapsed(&rt) else {
-            return Ok(());
-        };
-        // Not before the last one is over: whoever is asked of last would never be.
-        if Duration::from_millis(ROUND_MILLIS) <= spent && !following.is_awaited {
-            following.begin_round(&rt, gateway);
-            if let Ok(now) = Instant::now(&rt) {
-                round = now;
-            }
         }
     }
     Ok(())
@@ -121,11 +96,9 @@ impl Following {
         let Some(question) = question else {
             return Ok(true);
         };
-        self.asked = Some(question);
-        self.is_awaited = true;
-        let mut line = String::new(alloc);
-        question.add_line(&mut line)?;
-        Ok(self.stream.write_all(line.as_bytes()).is_ok())
+        let mut line = Vec::new(alloc);
+        question.add_line(alloc, &mut line)?;
+        Ok(self.stream.write_all(line.as_slice()).is_ok())
     }
 
     /// Reads what has come, for a while, and takes it in. Tells whether the socket goes on.
@@ -159,12 +132,7 @@ impl Following {
         for _ in rt.forever() {
             match self.lines.next()? {
                 NextLine::Line(line) => {
-                    let told = read_line(alloc, line.as_str())?;
-                    self.note(&told)?;
-                    match &mut self.fresh {
-                        Some(follower) => follower.hear(told)?,
-                        None => gateway.hear(rt, told)?,
-                    }
+                    self.hear(rt, alloc, gateway, line.as_str())?;
                     if !self.ask(rt, alloc, gateway)? {
                         return Ok(false);
                     }
@@ -176,40 +144,24 @@ impl Following {
         Ok(true)
     }
 
-    /// Notes of which conferences something may be told otherwise by it.
-    fn note(&mut self, told: &Told) -> Result<(), AllocError> {
-        match told {
-            Told::Live { conference, .. } => self.changed.add(*conference),
-            Told::End { .. } => {
-                self.is_awaited = false;
-                match self.asked {
-                    Some(
-                        Question::Floors(conference)
-                        | Question::Users(conference)
-                        | Question::Members(conference)
-                        | Question::Words(conference),
-                    ) => self.changed.add(conference),
-                    _ => {
-                        self.changed.is_all = true;
-                        Ok(())
-                    }
+    /// Takes a line, and tells pages what changes by it; the picture is shown once it is whole.
+    fn hear<R: Wait>(
+        &mut self,
+        rt: &R,
+        alloc: Global,
+        gateway: &Gateway,
+        line: &str,
+    ) -> Result<(), FollowFault> {
+        let told = read_line(alloc, &mut self.scratch, line)?;
+        match &mut self.fresh {
+            Some(follower) => follower.hear(told)?,
+            None => {
+                if let Some(conference) = gateway.hear(rt, told)? {
+                    tell_all(rt, gateway, Some(conference));
                 }
+                return Ok(());
             }
-            Told::Done | Told::Refused => {
-                self.is_awaited = false;
-                self.changed.is_all = true;
-                Ok(())
-            }
-            Told::Row(_) | Told::Listed(_) => Ok(()),
         }
-    }
-
-    /// Shows the picture once it is whole, tells what may have changed of one that is shown, and puts out whoever
-    /// was shown out.
-    fn show<R>(&mut self, rt: &R, alloc: Global, gateway: &Gateway, path: &str)
-    where
-        R: Net<Listener = TcpListener, Stream = TcpStream> + Clock + Wait,
-    {
         let is_whole = match &self.fresh {
             Some(follower) => follower.is_whole(),
             None => false,
@@ -217,45 +169,9 @@ impl Following {
         if is_whole {
             if let Some(follower) = self.fresh.take() {
                 gateway.show(rt, follower);
-                self.changed.is_all = true;
+                tell_all(rt, gateway, None);
             }
         }
-        if self.fresh.is_none() && !self.changed.is_empty() {
-            tell_all(rt, gateway, &self.changed);
-            put_out(rt, alloc, gateway, path, &self.changed);
-            self.changed = Changed::none(alloc);
-        }
-    }
-
-    /// Has the list and the words asked for again.
-    fn begin_round<R: Wait>(&mut self, rt: &R, gateway: &Gateway) {
-        match &mut self.fresh {
-            Some(follower) => follower.begin_round(),
-            None => gateway.begin_round(rt),
-        }
-    }
-}
-
-/// Has the server end the connections of users who were shown out. Who isn't reached by it, for want of memory or
-/// of the server, is by the next round: the word for it stands.
-fn put_out<R>(rt: &R, alloc: Global, gateway: &Gateway, path: &str, changed: &Changed)
-where
-    R: Net<Listener = TcpListener, Stream = TcpStream> + Clock + Wait,
-{
-    let Ok(all) = gateway.leaving(rt, changed) else {
-        return;
-    };
-    for one in all {
-        let Leaving {
-            conference,
-            user,
-            n,
-        } = one;
-        if let Ok(line) = format!(in alloc; "leave {conference} {n}\n") {
-            if let Ok(Some(answer)) = order::asked(rt, alloc, path, line.as_str()) {
-                let place = Place { conference, user };
-                gateway.tell(rt, &Entry::PutOut(place, answer.as_str().trim()));
-            }
-        }
+        Ok(())
     }
 }

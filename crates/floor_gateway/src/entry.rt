@@ -3,7 +3,7 @@
 
 use crate::gateway::Seat;
 use crate::unserved::Unserved;
-use floor_web::{End, Refusal};
+use floor_web::{End, Refusal, Role};
 use std::alloc::{AllocError, Global};
 
 /// What became of a connection.
@@ -23,8 +23,10 @@ pub enum Entry<'a> {
         what: &'a str,
         answer: &'a str,
     },
-    /// A connection of a user's who was shown out was ended at the server, which answered so.
-    PutOut(Place, &'a str),
+    /// Somebody who has a token of this role administers the server.
+    Calls(Role),
+    /// The connection of somebody who does has ended so.
+    CallsNoMore(Role, End),
     /// A connection isn't answered.
     Unserved(Unserved),
 }
@@ -32,10 +34,6 @@ pub enum Entry<'a> {
 /// Who orders something.
 #[derive(Clone, Copy, Debug)]
 pub enum Orderer {
-    /// Whoever has the operator's token.
-    Operator,
-    /// Whoever has the observer's, and may order nothing.
-    Observer,
     /// A user of a conference.
     User(Place),
     /// Whoever has the link for guests of this conference.
@@ -76,8 +74,6 @@ impl Entry<'_> {
                 format!(in alloc; "no server for conference {conference} user {user}")
             }
             Entry::Ordered { who, what, answer } => match who {
-                Orderer::Operator => format!(in alloc; "operator ordered {what}: {answer}"),
-                Orderer::Observer => format!(in alloc; "observer ordered {what}: {answer}"),
                 Orderer::User(place) => {
                     let (conference, user) = (place.conference, place.user);
                     format!(in alloc;
@@ -88,9 +84,9 @@ impl Entry<'_> {
                     format!(in alloc; "conference {conference} guest ordered {what}: {answer}")
                 }
             },
-            Entry::PutOut(place, answer) => {
-                let (conference, user) = (place.conference, place.user);
-                format!(in alloc; "put out conference {conference} user {user}: {answer}")
+            Entry::Calls(role) => format!(in alloc; "joined role {}", role.name()),
+            Entry::CallsNoMore(role, end) => {
+                format!(in alloc; "left role {}: {}", role.name(), end.name())
             }
             Entry::Refused(refusal) => format!(in alloc; "refused {}", refusal.status()),
             Entry::Unserved(unserved) => format!(in alloc; "unserved {}", unserved.name()),

@@ -1,6 +1,6 @@
 //! Why the gateway ends with a fault.
 
-use floor_web::ParticipantsFault;
+use floor_web::{ParticipantsFault, RolesFault};
 use std::alloc::{AllocError, AllocFailed};
 
 /// Why the gateway ends with status 1.
@@ -12,10 +12,10 @@ pub enum GatewayFault {
     Participants(ParticipantsFault),
     /// A user has a token and no port, and there is no door.
     MissingPort,
-    /// An operator's token is given, and no control socket.
+    /// Roles are given, and not both of the server's sockets that they call by.
     NoControl,
-    /// The operator's token is shorter than 22 characters, or has others than letters, digits, `-` and `_`.
-    WeakToken,
+    /// The file of the roles is refused.
+    Roles(RolesFault),
     /// The page's folder has no `index.html`.
     NoPage,
     /// The address can't be listened on, or no thread is left for it.
@@ -34,7 +34,7 @@ impl GatewayFault {
             GatewayFault::Participants(fault) => fault.name(),
             GatewayFault::MissingPort => "MissingPort",
             GatewayFault::NoControl => "NoControl",
-            GatewayFault::WeakToken => "WeakToken",
+            GatewayFault::Roles(fault) => fault.name(),
             GatewayFault::NoPage => "NoPage",
             GatewayFault::CannotListen => "CannotListen",
             GatewayFault::CannotWrite => "CannotWrite",

@@ -2,17 +2,17 @@
 
 use crate::entry::Entry;
 use crate::fault::GatewayFault;
-use crate::listener::{Changed, Listener};
+use crate::listener::Listener;
 use crate::pair::Pair;
 use crate::under_way::{MAX_UNDER_WAY, UnderWay};
 use crate::words::Words;
-use floor_follow::{Conference, Fact, FollowFault, Follower, Phase, Question, Told};
+use floor_follow::{FollowFault, Follower, Phase, Picture, Question, Told};
 use floor_listen::{Capacity, Granted, Taken};
 use floor_log::Log;
 use floor_web::{
-    Admission, File, Holder, NoPlace, Order, OrderFault, Origins, Pages, Participants,
-    ParticipantsFault, Places, Titles, admission_of, bearer, guest_of, is_invitation,
-    is_strong_token, join, kind_of, put_out, read_participants, read_titles, refusal_of,
+    Admission, File, Holder, MAX_OF_TOKEN, NoPlace, Order, OrderFault, Origins, Pages,
+    Participants, ParticipantsFault, Places, Roles, RolesFault, admission_of, bearer, guest_of,
+    is_invitation, join, kind_of, meeting_of, read_participants, read_roles, refusal_of,
 };
 use slab::Slab;
 use std::alloc::{AllocError, AllocFailed, Global};
@@ -25,9 +25,6 @@ use std::sync::atomic::{AtomicBool, Ordering};
 use std::sync::{Arc, Mutex, Wait};
 use std::time::Clock;
 
-/// How many connections the operator's pages may have at once, and orders be done: they have places of their own.
-const OPERATORS: usize = 16;
-
 /// How many orders of users may be done at once.
 const ORDERS: usize = 16;
 
@@ -39,14 +36,12 @@ const LOOK_UPS: usize = 64;
 pub struct Gateway {
     alloc: Global,
     participants: Participants,
-    /// What the configuration's file calls conferences and floors.
-    pub titles: Titles,
     /// The server's control socket, where it is followed.
     pub control: Option<String>,
-    /// The operator's token, where there is an operator's page.
-    operator: Option<String>,
-    /// The token of whoever sees the operator's page and orders nothing, where there is one.
-    observer: Option<String>,
+    /// The server's socket that tells no word, where somebody calls by it.
+    pub observe: Option<String>,
+    /// The tokens of those who may call.
+    pub roles: Roles,
     /// What is known by the control socket, once it was heard: it stays while the socket is lost.
     pub picture: Mutex<Option<Follower>>,
     is_lost: AtomicBool,
@@ -64,8 +59,8 @@ pub struct Gateway {
     under_way: Mutex<UnderWay>,
     /// Those of participants that go on.
     places: Mutex<Places>,
-    /// Those of the operator.
-    operators: Mutex<Capacity>,
+    /// How many each token of a role has, in the order of their file.
+    callers: Mutex<Vec<usize>>,
     /// Orders of users that are being done.
     orders: Mutex<Capacity>,
     look_ups: Mutex<Capacity>,
@@ -94,23 +89,6 @@ pub enum Whom {
     Guest(u32),
 }
 
-/// A connection to the server that is to be ended, since its user was shown out.
-#[derive(Clone, Copy, Debug)]
-pub struct Leaving {
-    pub conference: u32,
-    pub user: u16,
-    pub n: u32,
-}
-
-/// What somebody may do at the operator's page.
-#[derive(Clone, Copy, Debug, PartialEq, Eq)]
-pub enum Role {
-    /// To see how all conferences stand, and to order.
-    Operates,
-    /// To see alone.
-    Observes,
-}
-
 impl Gateway {
     /// The gateway of these words, to which nobody has connected, with the log that it tells, if there
     /// is one. Whatever is wrong is told on `errors`, with its place.
@@ -131,8 +109,8 @@ impl Gateway {
             origins,
             door,
             control,
-            operator,
-            observer,
+            observe,
+            roles,
             connections,
             client_address,
             has_log: _,
@@ -146,26 +124,30 @@ impl Gateway {
             is_followed,
             errors,
         )?;
-        let titles = read_titles(alloc, text.as_str())?;
         if door.is_none() && !is_followed {
             check_ports(&participants, config.as_str(), errors)?;
         }
-        let operator = operator_token(rt, alloc, operator, is_followed, errors)?;
-        let observer = operator_token(rt, alloc, observer, is_followed, errors)?;
+        let has_both = is_followed && observe.is_some();
+        let roles = roles_of(rt, alloc, roles, has_both, errors)?;
+        let mut callers = Vec::new(alloc);
+        for _ in 0..roles.len() {
+            callers.push(0usize)?;
+        }
         let pages = read_pages(rt, alloc, folder.as_str(), errors)?;
         if pages.find(b"index.html").is_none() {
             let _outcome = writeln!(errors, "{folder}: there is no index.html in it");
             return Err(GatewayFault::NoPage);
         }
         // As many requests that were ended to make room may be about to end.
-        let most = usize::from(connections) + OPERATORS + 2 * MAX_UNDER_WAY;
+        let most = usize::from(connections)
+            .saturating_add(roles.len().saturating_mul(MAX_OF_TOKEN))
+            .saturating_add(2 * MAX_UNDER_WAY);
         Ok(Gateway {
             alloc,
             participants,
-            titles,
             control,
-            operator,
-            observer,
+            observe,
+            roles,
             picture: Mutex::new(None),
             is_lost: AtomicBool::new(false),
             listening: Mutex::new(Slab::new(alloc)),
@@ -177,7 +159,7 @@ impl Gateway {
             connections: Mutex::new(Capacity::new(most)),
             under_way: Mutex::new(UnderWay::new(alloc)),
             places: Mutex::new(Places::new(alloc, usize::from(connections))),
-            operators: Mutex::new(Capacity::new(OPERATORS)),
+            callers: Mutex::new(callers),
             orders: Mutex::new(Capacity::new(ORDERS)),
             look_ups: Mutex::new(Capacity::new(LOOK_UPS)),
             is_ending: AtomicBool::new(false),
@@ -236,14 +218,22 @@ impl Gateway {
         self.places.lock(rt).give_back(holder);
     }
 
-    /// Takes one of the operator's places, if one is free.
-    pub fn enter_operator<R: Wait>(&self, rt: &R) -> Option<Granted> {
-        self.operators.lock(rt).take()
+    /// Takes one of the places of the token that stands there in the file of the roles, if one is free. Tells whether.
+    pub fn enter_caller<R: Wait>(&self, rt: &R, token: usize) -> bool {
+        match self.callers.lock(rt).get_mut(token) {
+            Some(count) if *count < MAX_OF_TOKEN => {
+                *count += 1;
+                true
+            }
+            _ => false,
+        }
     }
 
     /// Gives it back.
-    pub fn leave_operator<R: Wait>(&self, rt: &R, place: Taken) {
-        self.operators.lock(rt).give_back(place);
+    pub fn leave_caller<R: Wait>(&self, rt: &R, token: usize) {
+        if let Some(count) = self.callers.lock(rt).get_mut(token) {
+            *count = count.saturating_sub(1);
+        }
     }
 
     /// Lets an order of a user's be done, if one more may be.
@@ -313,8 +303,7 @@ impl Gateway {
         drop(listener);
     }
 
-    /// The pages that are told what changes; none where there is no memory for them, who hear it by the next
-    /// round.
+    /// The pages that are told what changes. One for which there is no memory hears it by the next change.
     pub fn listeners<R: Wait>(&self, rt: &R) -> Vec<Arc<Listener, Global>> {
         let mut all = Vec::new(self.alloc);
         for (_key, listener) in self.listening.lock(rt).iter() {
@@ -351,31 +340,16 @@ impl Gateway {
         }
     }
 
-    /// Takes what a line tells of the server that is shown.
-    pub fn hear<R: Wait>(&self, rt: &R, told: Told) -> Result<(), FollowFault> {
+    /// Takes what a line tells of the server that is shown. Gives the conference that is otherwise by it, if one is.
+    pub fn hear<R: Wait>(&self, rt: &R, told: Told) -> Result<Option<u32>, FollowFault> {
         match &mut *self.picture.lock(rt) {
-            Some(follower) => follower.hear(told),
-            None => Ok(()),
+            Some(follower) => {
+                let changed = follower.changed_by(&told);
+                follower.hear(told)?;
+                Ok(changed)
+            }
+            None => Ok(None),
         }
-    }
-
-    /// Has the list and the words asked for again.
-    pub fn begin_round<R: Wait>(&self, rt: &R) {
-        match &mut *self.picture.lock(rt) {
-            Some(follower) => follower.begin_round(),
-            None => {}
-        }
-    }
-
-    /// What whoever has this token may do at the operator's page, if anything.
-    pub fn role(&self, token: &[u8]) -> Option<Role> {
-        if is_token(&self.operator, token) {
-            return Some(Role::Operates);
-        }
-        if is_token(&self.observer, token) {
-            return Some(Role::Observes);
-        }
-        None
     }
 
     /// Whom a token stands for: by a word at the control socket, else by the file.
@@ -383,8 +357,10 @@ impl Gateway {
         let picture = self.picture.lock(rt);
         if let Some(follower) = &*picture {
             for conference in follower.conferences() {
-                if let Some(user) = bearer(conference, token) {
-                    return Some(self.seat_in(follower, conference.number, user, None));
+                if let Some(picture) = &conference.picture {
+                    if let Some(user) = bearer(picture, token) {
+                        return Some(self.seat_in(follower, conference.number, user, None));
+                    }
                 }
             }
         }
@@ -412,28 +388,36 @@ impl Gateway {
             return None;
         };
         for conference in follower.conferences() {
-            if is_invitation(conference, token) {
-                return Some(Whom::Guest(conference.number));
+            if let Some(picture) = &conference.picture {
+                if is_invitation(picture, token) {
+                    return Some(Whom::Guest(conference.number));
+                }
             }
         }
         None
     }
 
-    /// What the page of whoever may join a conference is told; `None` where nothing is known of it.
-    pub fn welcome<R: Wait>(&self, rt: &R, number: u32) -> Result<Option<String>, AllocError> {
-        let picture = self.picture.lock(rt);
-        let Some(follower) = &*picture else {
+    /// What the page of a user is told of a conference, or, without a user, that of whoever may join it; `None` where
+    /// nothing is known of it.
+    pub fn told<R: Wait>(
+        &self,
+        rt: &R,
+        conference: u32,
+        user: Option<u16>,
+    ) -> Result<Option<String>, AllocError> {
+        let known = self.picture.lock(rt);
+        let Some(picture) = picture_in(&known, conference) else {
             return Ok(None);
         };
-        match follower.conference(number) {
-            Some(conference) => Ok(Some(guest_of(self.alloc, conference, &self.titles)?)),
-            None => Ok(None),
+        match user {
+            Some(user) => meeting_of(self.alloc, conference, picture, user),
+            None => Ok(Some(guest_of(self.alloc, conference, picture)?)),
         }
     }
 
     /// Whether a token stands for anybody.
     pub fn is_taken<R: Wait>(&self, rt: &R, token: &[u8]) -> bool {
-        self.role(token).is_some() || self.whom(rt, token).is_some()
+        self.roles.find(token).is_some() || self.whom(rt, token).is_some()
     }
 
     /// Why a user's order isn't followed, by what is known of the conference.
@@ -442,11 +426,8 @@ impl Gateway {
         if self.is_lost() {
             return Some(OrderFault::NoAnswer);
         }
-        match &*self.picture.lock(rt) {
-            Some(follower) => match follower.conference(seat.conference) {
-                Some(conference) => refusal_of(conference, seat.user, order),
-                None => Some(OrderFault::NotChair),
-            },
+        match picture_in(&self.picture.lock(rt), seat.conference) {
+            Some(picture) => refusal_of(picture, seat.user, order),
             None => Some(OrderFault::NotChair),
         }
     }
@@ -461,28 +442,10 @@ impl Gateway {
         if self.is_lost() {
             return Err(OrderFault::NoAnswer);
         }
-        match &*self.picture.lock(rt) {
-            Some(follower) => match follower.conference(number) {
-                Some(conference) => join(conference, token),
-                None => Err(OrderFault::Locked),
-            },
+        match picture_in(&self.picture.lock(rt), number) {
+            Some(picture) => join(picture, token),
             None => Err(OrderFault::Locked),
         }
-    }
-
-    /// The connections of users who were shown out, of conferences that may have changed.
-    pub fn leaving<R: Wait>(&self, rt: &R, changed: &Changed) -> Result<Vec<Leaving>, AllocError> {
-        let mut all = Vec::new(self.alloc);
-        let picture = self.picture.lock(rt);
-        let Some(follower) = &*picture else {
-            return Ok(all);
-        };
-        for conference in follower.conferences() {
-            if changed.has(conference.number) {
-                add_leaving(&mut all, conference)?;
-            }
-        }
-        Ok(all)
     }
 
     /// A user's seat by what is known of the conference. While the control socket is lost none is known to
@@ -498,16 +461,18 @@ impl Gateway {
         let Some(conference) = follower.conference(number) else {
             return seat;
         };
-        if conference.phase == Phase::Running {
+        let Some(picture) = &conference.picture else {
+            // It is there, and more isn't known yet.
+            seat.is_ended = false;
+            return seat;
+        };
+        if picture.phase == Phase::Running {
             seat.is_ended = false;
         }
-        seat.admission = admission_of(conference, user);
-        for fact in conference.facts.as_slice() {
-            match fact {
-                Fact::User(person) if person.id == user && seat.port.is_none() => {
-                    seat.port = person.port;
-                }
-                _ => {}
+        seat.admission = admission_of(picture, user);
+        for person in picture.users.as_slice() {
+            if person.id == user && seat.port.is_none() {
+                seat.port = person.port;
             }
         }
         seat
@@ -527,30 +492,14 @@ impl Gateway {
     }
 }
 
-/// Adds the connections of users of a conference who were shown out.
-fn add_leaving(all: &mut Vec<Leaving>, conference: &Conference) -> Result<(), AllocError> {
-    for fact in conference.facts.as_slice() {
-        match fact {
-            Fact::Member(member) => {
-                if let Some(n) = put_out(conference, fact) {
-                    all.push(Leaving {
-                        conference: conference.number,
-                        user: member.user,
-                        n,
-                    })?;
-                }
-            }
-            _ => {}
-        }
-    }
-    Ok(())
-}
-
-/// Whether this is the token, where there is one.
-fn is_token(token: &Option<String>, told: &[u8]) -> bool {
-    match token {
-        Some(token) => token.as_bytes() == told,
-        None => false,
+/// What is known of a conference, if anything is.
+fn picture_in(known: &Option<Follower>, number: u32) -> Option<&Picture> {
+    match known {
+        Some(follower) => match follower.conference(number) {
+            Some(conference) => conference.picture.as_ref(),
+            None => None,
+        },
+        None => None,
     }
 }
 
@@ -568,35 +517,43 @@ where
     }
 }
 
-/// A token of the operator's page, which a file has, where one is named.
-fn operator_token<R, E: Write>(
+/// The roles of a file, where one is named.
+fn roles_of<R, E: Write>(
     rt: &R,
     alloc: Global,
     path: Option<String>,
-    is_followed: bool,
+    has_both: bool,
     errors: &mut E,
-) -> Result<Option<String>, GatewayFault>
+) -> Result<Roles, GatewayFault>
 where
     R: Files + AllocGlobal + Clone + Drop,
 {
     let Some(path) = path else {
-        return Ok(None);
+        return Ok(Roles::none(alloc));
     };
-    if !is_followed {
-        let _outcome = writeln!(errors, "an operator's page needs --control");
+    if !has_both {
+        let _outcome = writeln!(errors, "roles need --control and --observe");
         return Err(GatewayFault::NoControl);
     }
     let text = text_of(rt, path.as_str(), errors)?;
-    let token = text.as_str().trim();
-    if !is_strong_token(token.as_bytes()) {
-        let _outcome = writeln!(
-            errors,
-            "{}: a token is a text of at least 22 letters, digits, - and _",
-            path.as_str()
-        );
-        return Err(GatewayFault::WeakToken);
+    match read_roles(alloc, text.as_str()) {
+        Ok(roles) => Ok(roles),
+        Err(RolesFault::Memory) => Err(GatewayFault::Memory),
+        Err(fault) => {
+            let line = match fault {
+                RolesFault::NoRole { line }
+                | RolesFault::WeakToken { line }
+                | RolesFault::DoubleToken { line } => line,
+                RolesFault::Memory => 0,
+            };
+            let _outcome = writeln!(
+                errors,
+                "{}, line {line}: observe, operate or bridge, and a token of its own of at least 22 letters, digits, - and _",
+                path.as_str()
+            );
+            Err(GatewayFault::Roles(fault))
+        }
     }
-    Ok(Some(String::from_str(alloc, token)?))
 }
 
 /// The participants of a configuration's text: there may be none where others come by the control socket.

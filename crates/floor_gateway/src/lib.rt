@@ -7,6 +7,8 @@
 //! writers.
 #![tactic(auto)]
 
+mod asking;
+mod carrier;
 mod connection;
 mod control;
 mod deadline;
@@ -16,7 +18,6 @@ mod gateway;
 mod head;
 mod listener;
 mod network;
-mod order;
 mod ordering;
 mod pair;
 mod reset;

@@ -1,15 +1,16 @@
-//! What pages have done: an operator's orders, a chair's, and how somebody joins who has the link for guests.
+//! What pages have done: a chair's orders, and how somebody joins who has the link for guests.
 //!
-//! Whatever is ordered comes to lines of the server's control socket, asked by a client of its own, and is told to the
-//! log with who gave it and what was answered. No token is.
+//! Whatever is ordered comes to calls of the server, asked by a client of its own, and is told to the log with who gave
+//! it and what was answered. No token is.
 
+use crate::asking::called;
 use crate::entry::{Entry, Orderer, Place};
-use crate::gateway::{Gateway, Role, Seat, Whom};
-use crate::order;
+use crate::gateway::{Gateway, Seat, Whom};
 use floor_web::{
-    Joining, Order, OrderFault, Refusal, guest_line, line_of, read_joining, read_name, read_order,
-    token_line,
+    Joining, Order, OrderFault, Refusal, call_of, guest_call, read_joining, read_name, read_order,
+    token_call,
 };
+use floor_rpc::Call;
 use std::alloc::{AllocError, Global};
 use std::net::{Net, TcpListener, TcpStream};
 use std::sync::Wait;
@@ -18,59 +19,16 @@ use std::time::Clock;
 /// How many User IDs are tried for a guest: a conference has no more users.
 const MAX_TRIES: u16 = 256;
 
+/// What says that an order was carried out.
+const DONE: &str = "ok";
+
 /// What answers an order.
 #[derive(Drop)]
 pub enum Answer {
     /// It is none, or whoever gives it may give none.
     Refused(Refusal),
-    /// What the server answered, or `error` with the name of the fault.
+    /// `ok`, or `error` with the name of the fault, the server's or one of floorweb's.
     Says(String),
-}
-
-/// Has done what the operator's page orders, by the server's line for it.
-pub fn obey_operator<R>(
-    rt: &R,
-    alloc: Global,
-    gateway: &Gateway,
-    token: &[u8],
-    order: &[u8],
-) -> Result<Answer, AllocError>
-where
-    R: Net<Listener = TcpListener, Stream = TcpStream> + Clock + Wait,
-{
-    let Some(path) = &gateway.control else {
-        return Ok(Answer::Refused(Refusal::NotFound));
-    };
-    let Some(role) = gateway.role(token) else {
-        return Ok(Answer::Refused(Refusal::NotFound));
-    };
-    let order = std::str::from_utf8(order).unwrap_or("");
-    let line = order::line_of(alloc, order)?;
-    if role == Role::Observes {
-        if line.is_some() {
-            let who = Orderer::Observer;
-            tell(rt, gateway, who, order, Refusal::Forbidden.status());
-        }
-        return Ok(Answer::Refused(Refusal::Forbidden));
-    }
-    let Some(line) = line else {
-        return Ok(Answer::Refused(Refusal::BadRequest));
-    };
-    let Some(granted) = gateway.enter_operator(rt) else {
-        return Ok(Answer::Refused(Refusal::Unavailable));
-    };
-    let place = granted.taken();
-    let answered = order::asked(rt, alloc, path.as_str(), line.as_str());
-    gateway.leave_operator(rt, place);
-    let answer = match &answered {
-        Ok(Some(text)) => text.as_str().trim(),
-        Ok(None) | Err(_) => "no answer",
-    };
-    tell(rt, gateway, Orderer::Operator, order, answer);
-    match answered? {
-        Some(text) => Ok(Answer::Says(text)),
-        None => Ok(Answer::Refused(Refusal::BadGateway)),
-    }
 }
 
 /// Has done what a user orders, who has to be a chair; or has somebody join.
@@ -117,8 +75,8 @@ where
     let text = match fault_of(rt, gateway, seat, order) {
         Some(fault) => error_text(alloc, fault)?,
         None => {
-            let line = line_of(alloc, seat.conference, order)?;
-            asked(rt, alloc, path, line.as_str())?
+            let call = call_of(alloc, seat.conference, order)?;
+            done(rt, alloc, path, call)?
         }
     };
     let what = what_of(alloc, order)?;
@@ -230,12 +188,12 @@ where
 {
     for more in 0..MAX_TRIES {
         let user = guest.first.saturating_add(more);
-        let line = guest_line(alloc, conference, user, guest.name.as_str())?;
-        let answer = asked(rt, alloc, path, line.as_str())?;
-        if answer.as_str().starts_with("ok ") {
-            let line = token_line(alloc, conference, user, guest.token)?;
-            let answer = asked(rt, alloc, path, line.as_str())?;
-            if answer.as_str().starts_with("ok ") {
+        let call = guest_call(alloc, conference, user, guest.name.as_str())?;
+        let answer = done(rt, alloc, path, call)?;
+        if answer.as_str() == DONE {
+            let call = token_call(alloc, conference, user, guest.token)?;
+            let answer = done(rt, alloc, path, call)?;
+            if answer.as_str() == DONE {
                 return format!(in alloc; "ok guest {user}");
             }
             return Ok(answer);
@@ -247,13 +205,14 @@ where
     error_text(alloc, OrderFault::Full)
 }
 
-/// What the server answers to a line.
-fn asked<R>(rt: &R, alloc: Global, path: &str, line: &str) -> Result<String, AllocError>
+/// Has the server carry out a call, and says what came of it.
+fn done<R>(rt: &R, alloc: Global, path: &str, call: Call) -> Result<String, AllocError>
 where
     R: Net<Listener = TcpListener, Stream = TcpStream>,
 {
-    match order::asked(rt, alloc, path, line)? {
-        Some(text) => String::from_str(alloc, text.as_str().trim()),
+    match called(rt, alloc, path, call)? {
+        Some(error) if error.is_empty() => String::from_str(alloc, DONE),
+        Some(error) => format!(in alloc; "error {error}"),
         None => error_text(alloc, OrderFault::NoAnswer),
     }
 }

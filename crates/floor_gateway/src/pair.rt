@@ -4,12 +4,14 @@
 //! made and written under the relay's lock, so that it leaves in the order in which the relay made
 //! it, and whole. What goes to the server only the first thread writes.
 
+use crate::asking::{Answer, asked};
+use crate::carrier::Carrier;
 use crate::deadline::Deadline;
 use crate::reset::reset;
-use floor_web::{End, Relay, Side};
+use floor_web::{Carried, End, Side};
 use std::alloc::Global;
 use std::io::{ErrorKind, Read, Write};
-use std::net::{Shutdown, TcpStream};
+use std::net::{Net, Shutdown, TcpListener, TcpStream};
 use std::sync::atomic::{AtomicBool, Ordering};
 use std::sync::{Mutex, Wait};
 use std::time::{Clock, Duration};
@@ -35,19 +37,28 @@ pub struct Pair {
     server: TcpStream,
     /// Whether the gateway itself has ended the reading of the server.
     is_hung_up: AtomicBool,
-    relay: Mutex<Relay>,
+    carrier: Mutex<Carrier>,
+    /// The server's socket that carries out the acts of whoever administers it.
+    acts_at: Option<String>,
 }
 
 impl Pair {
-    /// The pair of a browser, whose handshake is read, and of the server's port.
-    pub fn new(alloc: Global, browser: TcpStream, server: TcpStream) -> Pair {
+    /// The pair of a browser, whose handshake is read, and of the server's socket.
+    pub fn new(
+        alloc: Global,
+        browser: TcpStream,
+        server: TcpStream,
+        carrier: Carrier,
+        acts_at: Option<String>,
+    ) -> Pair {
         let _outcome = browser.set_read_timeout(Some(Duration::from_secs(QUIET_SECONDS)));
         Pair {
             alloc,
             browser,
             server,
             is_hung_up: AtomicBool::new(false),
-            relay: Mutex::new(Relay::new(alloc)),
+            carrier: Mutex::new(carrier),
+            acts_at,
         }
     }
 
@@ -59,7 +70,10 @@ impl Pair {
 
     /// Carries what the browser sends, from the bytes that came behind the head of its request on,
     /// until the relay has ended.
-    pub fn carry_up<R: Wait>(&self, rt: &R, behind: &[u8]) {
+    pub fn carry_up<R>(&self, rt: &R, behind: &[u8])
+    where
+        R: Net<Listener = TcpListener, Stream = TcpStream> + Wait,
+    {
         if !self.hear(rt, behind) {
             return;
         }
@@ -122,11 +136,8 @@ impl Pair {
     /// Ends the server's connection, of which nobody reads any more: in order where the participant leaves. Else it
     /// is reset, since the participant may come again.
     fn end_server<R: Wait>(&self, rt: &R) {
-        let is_leave = match self.relay.lock(rt).end() {
-            Some(end) => end.is_leave(),
-            None => false,
-        };
-        if is_leave || !reset(&self.server) {
+        let is_lost = self.carrier.lock(rt).is_lost();
+        if !is_lost || !reset(&self.server) {
             let _outcome = self.server.shutdown(Shutdown::Both);
         }
     }
@@ -134,40 +145,73 @@ impl Pair {
     /// Waits a while for the browser to close its side, and tells how the relay ended.
     pub fn part<R: Clock + Wait>(&self, rt: &R) -> Option<End> {
         linger(rt, &self.browser);
-        self.relay.lock(rt).end()
+        self.carrier.lock(rt).end()
     }
 
     /// Takes a piece of the browser's stream. Tells whether the relay goes on.
-    fn hear<R: Wait>(&self, rt: &R, piece: &[u8]) -> bool {
+    fn hear<R>(&self, rt: &R, piece: &[u8]) -> bool
+    where
+        R: Net<Listener = TcpListener, Stream = TcpStream> + Wait,
+    {
         // For one piece alone: what a long message took is given back with it.
-        let mut up = Vec::new(self.alloc);
-        let mut down = Vec::new(self.alloc);
+        let mut out = Carried::nothing(self.alloc);
         let goes_on = {
-            let mut relay = self.relay.lock(rt);
-            relay.browser(piece, &mut up, &mut down);
-            self.send(&mut relay, down.as_slice())
+            let mut carrier = self.carrier.lock(rt);
+            carrier.browser(piece, &mut out);
+            self.send(&mut carrier, out.down.as_slice())
         };
         let mut server = &self.server;
-        if !up.is_empty() && server.write_all(up.as_slice()).is_err() {
+        if !out.lines.is_empty() && server.write_all(out.lines.as_slice()).is_err() {
             return self.close(rt, Side::Server);
         }
+        for act in out.acts.as_slice().split(|byte| *byte == b'\n') {
+            if !act.is_empty() && !self.act(rt, act) {
+                return self.close(rt, Side::Server);
+            }
+        }
         goes_on
+    }
+
+    /// Has an act carried out, and tells what answers it. Tells whether the server did so.
+    fn act<R>(&self, rt: &R, act: &[u8]) -> bool
+    where
+        R: Net<Listener = TcpListener, Stream = TcpStream> + Wait,
+    {
+        let Some(path) = &self.acts_at else {
+            return false;
+        };
+        let mut line = Vec::new(self.alloc);
+        if line.extend_from_slice(act).is_err() || line.extend_from_slice(b"\n").is_err() {
+            return false;
+        }
+        match asked(rt, self.alloc, path.as_str(), line.as_slice()) {
+            Ok(Answer::Line(text)) => {
+                let mut down = Vec::new(self.alloc);
+                let mut carrier = self.carrier.lock(rt);
+                carrier.answer(text.as_str(), &mut down);
+                // Where it can't be sent the relay has ended, which the next read finds.
+                let _goes_on = self.send(&mut carrier, down.as_slice());
+                true
+            }
+            Ok(Answer::Nothing) => true,
+            Ok(Answer::Failed) | Err(_) => false,
+        }
     }
 
     /// Takes a piece of the server's stream. Tells whether the relay goes on.
     fn tell<R: Wait>(&self, rt: &R, piece: &[u8]) -> bool {
         let mut down = Vec::new(self.alloc);
-        let mut relay = self.relay.lock(rt);
-        relay.server(piece, &mut down);
-        self.send(&mut relay, down.as_slice())
+        let mut carrier = self.carrier.lock(rt);
+        carrier.server(piece, &mut down);
+        self.send(&mut carrier, down.as_slice())
     }
 
     /// Says that a side's stream ended. Tells whether the relay goes on.
     fn close<R: Wait>(&self, rt: &R, side: Side) -> bool {
         let mut down = Vec::new(self.alloc);
-        let mut relay = self.relay.lock(rt);
-        relay.close(side, &mut down);
-        self.send(&mut relay, down.as_slice())
+        let mut carrier = self.carrier.lock(rt);
+        carrier.close(side, &mut down);
+        self.send(&mut carrier, down.as_slice())
     }
 
     /// Says that the server's stream ended, which has said something or not. Tells whether the relay goes on.
@@ -176,29 +220,29 @@ impl Pair {
             return self.close(rt, Side::Server);
         }
         let mut down = Vec::new(self.alloc);
-        let mut relay = self.relay.lock(rt);
-        relay.refuse(&mut down);
-        self.send(&mut relay, down.as_slice())
+        let mut carrier = self.carrier.lock(rt);
+        carrier.refuse(&mut down);
+        self.send(&mut carrier, down.as_slice())
     }
 
     /// Asks the browser for a sign of life. Tells whether the relay goes on.
     fn ping<R: Wait>(&self, rt: &R) -> bool {
         let mut down = Vec::new(self.alloc);
-        let mut relay = self.relay.lock(rt);
-        relay.ping(&mut down);
-        self.send(&mut relay, down.as_slice())
+        let mut carrier = self.carrier.lock(rt);
+        carrier.ping(&mut down);
+        self.send(&mut carrier, down.as_slice())
     }
 
     /// Sends the browser what the relay made, whose lock is held. Where that fails the browser is
     /// gone: a part of a frame may have left, so nothing may follow. Tells whether the relay goes on.
-    fn send(&self, relay: &mut Relay, down: &[u8]) -> bool {
+    fn send(&self, carrier: &mut Carrier, down: &[u8]) -> bool {
         let mut browser = &self.browser;
         if !down.is_empty() && browser.write_all(down).is_err() {
             let mut nothing = Vec::new(self.alloc);
-            relay.close(Side::Browser, &mut nothing);
+            carrier.close(Side::Browser, &mut nothing);
             let _outcome = self.browser.shutdown(Shutdown::Both);
         }
-        relay.end().is_none()
+        carrier.end().is_none()
     }
 }
 

@@ -1,4 +1,4 @@
-//! The way to the server: a participant's port, or the door for all.
+//! The way to the server: a participant's port, the door for all, or a socket for those who administer it.
 
 use crate::gateway::Seat;
 use crate::pair::WRITE_SECONDS;
@@ -7,6 +7,8 @@ use floor_proxy::unique_id_header;
 use std::alloc::Global;
 use std::io::{ErrorKind, Write};
 use std::net::{Ipv4Addr, Net, SocketAddr, TcpListener, TcpStream};
+use std::os::fd::OwnedFd;
+use std::os::unix::net::UnixStream;
 use std::time::Duration;
 
 /// How long the server may take to take a connection, in seconds.
@@ -47,6 +49,19 @@ pub fn reach<R: Net<Listener = TcpListener, Stream = TcpStream>>(
         }
     }
     Ok(Reached::Server(server))
+}
+
+/// Connects to a socket of those who administer the server, where it is named.
+pub fn call_at<R>(rt: &R, path: &Option<String>) -> Option<TcpStream>
+where
+    R: Net<Listener = TcpListener, Stream = TcpStream>,
+{
+    let Some(path) = path else {
+        return None;
+    };
+    let stream = UnixStream::connect(rt, path.as_str()).ok()?;
+    let _outcome = stream.set_write_timeout(Some(Duration::from_secs(WRITE_SECONDS)));
+    Some(TcpStream::from(OwnedFd::from(stream)))
 }
 
 /// Has a socket send without delay, and wait for its peer no longer than it may.

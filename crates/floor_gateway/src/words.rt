@@ -27,10 +27,10 @@ pub struct Words {
     pub door: Option<u16>,
     /// The server's control socket, where it is followed.
     pub control: Option<String>,
-    /// The file that has the operator's token, where there is an operator's page.
-    pub operator: Option<String>,
-    /// The file that has the token of whoever sees the operator's page and orders nothing.
-    pub observer: Option<String>,
+    /// The server's socket that tells no word, where somebody may call by it.
+    pub observe: Option<String>,
+    /// The file that has the tokens of those who administer the server, where somebody may.
+    pub roles: Option<String>,
     /// How many connections of pages there may be at once.
     pub connections: u16,
     /// The field of a request's head in which a proxy names the client's address.
@@ -73,8 +73,8 @@ fn parsed(alloc: Global, words: &[String]) -> Result<Words, Error> {
         origins,
         door: matches.get_one::<u16>("door-by-id"),
         control: optional_text(alloc, &matches, "control")?,
-        operator: optional_text(alloc, &matches, "operator")?,
-        observer: optional_text(alloc, &matches, "observer")?,
+        observe: optional_text(alloc, &matches, "observe")?,
+        roles: optional_text(alloc, &matches, "roles")?,
         client_address: optional_text(alloc, &matches, "client-address")?,
         connections: matches.get_one::<u16>("connections").unwrap_or(CONNECTIONS),
         has_log: matches.get_flag("log"),
@@ -118,19 +118,19 @@ fn command<'a>(alloc: Global) -> Result<Command<'a>, Error> {
                 ),
         )?
         .arg(
-            Arg::new(alloc, "operator")
-                .long("operator")
-                .value_name("file")
+            Arg::new(alloc, "observe")
+                .long("observe")
+                .value_name("path")
                 .action(ArgAction::Set)
-                .help("A file with the token of the operator's page, /operator#TOKEN."),
+                .help("The server's socket that tells no word, for the roles observe and operate."),
         )?
         .arg(
-            Arg::new(alloc, "observer")
-                .long("observer")
+            Arg::new(alloc, "roles")
+                .long("roles")
                 .value_name("file")
                 .action(ArgAction::Set)
                 .help(
-                    "A file with a token by which the operator's page is seen, and orders nothing.",
+                    "A file with a line ROLE TOKEN for each who may call at /rpc: observe, operate or bridge.",
                 ),
         )?
         .arg(

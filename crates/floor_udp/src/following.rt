@@ -5,7 +5,7 @@
 use crate::gate::{CONTROL, Gate, front};
 use crate::origin::{NOWHERE, Origin, read_origin};
 use floor_datagram::End;
-use floor_follow::{Conference, Fact, Follower, Lines, NextLine, Told, Word, read_line};
+use floor_follow::{Conference, Follower, Lines, NextLine, Scratch, Word, read_line};
 use floor_sessions::User;
 use floor_words::read_u16;
 use mio::net::UnixStream;
@@ -16,11 +16,8 @@ use std::net::Net;
 use std::sync::Wait;
 use std::time::Clock;
 
-/// How long it waits before a lost control socket is tried again, and how often the words are asked for, in
-/// milliseconds.
+/// How long it waits before a lost control socket is tried again, in milliseconds.
 const AGAIN_MILLIS: u64 = 500;
-
-const ROUND_MILLIS: u64 = 1_000;
 
 /// How often it is read before others are served.
 const MAX_READS: u32 = 16;
@@ -32,12 +29,13 @@ pub struct Following {
     path: String,
     stream: Option<UnixStream>,
     lines: Lines,
+    scratch: Scratch,
     follower: Follower,
-    /// Whether an answer is awaited.
-    is_awaited: bool,
+    /// Whether what is known changed since the users were given last.
+    is_changed: bool,
     /// Whether there may be something to read.
     pub is_readable: bool,
-    /// When it is tried again, or the words are asked for again, in milliseconds.
+    /// When it is tried again, in milliseconds.
     again: u64,
 }
 
@@ -49,8 +47,9 @@ impl Following {
             path,
             stream: None,
             lines: Lines::new(alloc),
+            scratch: Scratch::new(alloc),
             follower: Follower::new(alloc),
-            is_awaited: false,
+            is_changed: false,
             is_readable: false,
             again: 0,
         }
@@ -61,13 +60,13 @@ impl Following {
         if self.is_readable {
             return Some(0);
         }
-        if self.is_awaited {
+        if self.stream.is_some() {
             return None;
         }
         Some(self.again)
     }
 
-    /// Goes on: connects, reads what has come, and asks again. Gives the users of the words where they are known anew.
+    /// Goes on: connects, or reads what has come. Gives the users of the words where they are known anew.
     fn go_on<R: Net>(
         &mut self,
         rt: &R,
@@ -85,16 +84,12 @@ impl Following {
             self.lose(now);
             return None;
         }
-        if self.is_awaited || now < self.again || !self.follower.is_whole() {
+        if !self.is_changed || !self.follower.is_whole() {
             return None;
         }
-        self.again = now.saturating_add(ROUND_MILLIS);
-        let users = users_of(self.alloc, self.follower.conferences());
-        self.follower.begin_round();
-        if !self.ask() {
-            self.lose(now);
-        }
-        users.ok()
+        let users = users_of(self.alloc, self.follower.conferences()).ok()?;
+        self.is_changed = false;
+        Some(users)
     }
 
     /// Connects, and asks first.
@@ -113,7 +108,7 @@ impl Following {
         self.lines = Lines::new(self.alloc);
         self.follower = Follower::new(self.alloc);
         self.is_readable = true;
-        self.again = now;
+        self.is_changed = true;
         if !self.ask() {
             self.lose(now);
         }
@@ -123,7 +118,6 @@ impl Following {
     fn lose(&mut self, now: u64) {
         self.stream = None;
         self.is_readable = false;
-        self.is_awaited = false;
         self.again = now.saturating_add(AGAIN_MILLIS);
     }
 
@@ -132,13 +126,12 @@ impl Following {
         let Some(question) = self.follower.ask() else {
             return true;
         };
-        self.is_awaited = true;
-        let mut line = String::new(self.alloc);
-        if question.add_line(&mut line).is_err() {
+        let mut line = Vec::new(self.alloc);
+        if question.add_line(self.alloc, &mut line).is_err() {
             return false;
         }
         match &mut self.stream {
-            Some(stream) => stream.write_all(line.as_bytes()).is_ok(),
+            Some(stream) => stream.write_all(line.as_slice()).is_ok(),
             None => false,
         }
     }
@@ -188,11 +181,10 @@ impl Following {
 
     /// Takes a line, and asks what is to be asked behind it.
     fn hear(&mut self, line: &str) -> bool {
-        let Ok(told) = read_line(self.alloc, line) else {
+        let Ok(told) = read_line(self.alloc, &mut self.scratch, line) else {
             return false;
         };
-        let is_last = matches!(told, Told::End { .. } | Told::Done | Told::Refused);
-        self.is_awaited = self.is_awaited && !is_last;
+        self.is_changed = self.is_changed || self.follower.changed_by(&told).is_some();
         self.follower.hear(told).is_ok() && self.ask()
     }
 }
@@ -201,8 +193,8 @@ impl Following {
 fn users_of(alloc: Global, conferences: &[Conference]) -> Result<Vec<User>, AllocError> {
     let mut users = Vec::new(alloc);
     for conference in conferences {
-        for fact in conference.facts.as_slice() {
-            if let Fact::Word(word) = fact {
+        if let Some(picture) = &conference.picture {
+            for word in picture.words.as_slice() {
                 if let Some(user) = user_of_key(word.key.as_str()) {
                     users.push(origin_of(word).user(conference.number, user))?;
                 }
@@ -214,10 +206,7 @@ fn users_of(alloc: Global, conferences: &[Conference]) -> Result<Vec<User>, Allo
 
 /// From where a user may come by a word: from nowhere where it is no address.
 fn origin_of(word: &Word) -> Origin {
-    match std::str::from_utf8(word.value.as_slice()) {
-        Ok(text) => read_origin(text).unwrap_or(NOWHERE),
-        Err(_) => NOWHERE,
-    }
+    read_origin(word.text.as_str()).unwrap_or(NOWHERE)
 }
 
 /// The user of a word's key, `udp.` and the User ID.

@@ -6,21 +6,21 @@ use Rattle.websocket.specs.Handshake.{IsValidKey, accept_key_of}
 use Rattle.floor_web.specs.declared.refusal.Refusal.{Refusal}
 use Rattle.floor_web.specs.declared.refusal.Refusal.TheVariants.{BadRequest, Forbidden, MethodNotAllowed, UpgradeRequired}
 use Rattle.floor_web.specs.declared.asked.Asked.{Asked}
-use Rattle.floor_web.specs.declared.asked.Asked.TheVariants.{Page, Told, Order, Bfcp}
-use Rattle.floor_web.specs.declared.asked.Giver.{Giver}
-use Rattle.floor_web.specs.declared.asked.Giver.TheVariants as By
+use Rattle.floor_web.specs.declared.asked.Asked.TheVariants.{Page, Told, Order, Socket}
+use Rattle.floor_web.specs.declared.asked.Protocol.{Protocol}
+use Rattle.floor_web.specs.declared.asked.Protocol.TheVariants.{Bfcp, JsonRpc}
 use Rattle.floor_web.specs.declared.asked.Source.{Source}
-use Rattle.floor_web.specs.declared.asked.Source.TheVariants.{Meeting, Live, Operator}
+use Rattle.floor_web.specs.declared.asked.Source.TheVariants.{Meeting, Live}
 use Rattle.floor_web.specs.Fields.{values_of, only, words, has_word, behind, offers}
 use Rattle.floor_web.specs.Origins.{allows}
 
 -- what a request asks for: a file of the page by its name, or what whoever has this token is told of a source, each with its body or
--- without; that something be done, as the operator's or a user's order, by whoever has this token; or a WebSocket for the user with this token, under the key of its handshake
+-- without; that something be done by whoever has this token; or a WebSocket of this protocol for whoever has this token, under the key of its handshake
 pub data Wanted : Type 0 where
   page : List ℕ → Bool → Wanted
   told : Source → List ℕ → Bool → Wanted
-  order : Giver → (token order : List ℕ) → Wanted
-  socket : (token key : List ℕ) → Wanted
+  order : (token order : List ℕ) → Wanted
+  socket : Protocol → (token key : List ℕ) → Wanted
 
 -- what follows where nothing is refused
 abbrev pub after : {A : Type 0} → Result A Refusal → (A → Result Wanted Refusal) → Result Wanted Refusal
@@ -31,6 +31,11 @@ abbrev pub has_field : Fields → List ℕ → Bool
 has_field fields name = not (length (values_of fields name) == 0)
 
 -- ---- a WebSocket
+
+-- the name of the subprotocol
+abbrev pub protocol_name : Protocol → List ℕ
+protocol_name Bfcp = codes "bfcp"
+protocol_name JsonRpc = codes "jsonrpc"
 
 -- the token among the words of a list: what stands behind `token.`
 unfoldable pub token_in : List ℕ → Option (List ℕ)
@@ -63,18 +68,18 @@ abbrev pub origin_checked : List (List ℕ) → (host : List ℕ) → Result (Op
 origin_checked listed host (Ok origin) = if allows listed origin host then Ok tt else Err Forbidden
 origin_checked listed host (Err e) = Err e
 
-abbrev pub under_key : (token : List ℕ) → Option (List ℕ) → Result Wanted Refusal
-under_key token None = Err BadRequest
-under_key token (Some key) = Ok (socket token key)
+abbrev pub under_key : Protocol → (token : List ℕ) → Option (List ℕ) → Result Wanted Refusal
+under_key protocol token None = Err BadRequest
+under_key protocol token (Some key) = Ok (socket protocol token key)
 
 -- the order: the method, the upgrade and its version, the subprotocol, the origin, the key
-abbrev pub asked_socket : List (List ℕ) → Fields → (host : List ℕ) → (is_head : Bool) → (token : List ℕ) → Result Wanted Refusal
-asked_socket listed fields host is_head token =
+abbrev pub asked_socket : List (List ℕ) → Fields → (host : List ℕ) → (is_head : Bool) → Protocol → (token : List ℕ) → Result Wanted Refusal
+asked_socket listed fields host is_head protocol token =
     if is_head then Err MethodNotAllowed
     else after (upgrades fields) (λ _.
-    if offers (values_of fields (codes "Sec-WebSocket-Protocol")) (codes "bfcp") then
+    if offers (values_of fields (codes "Sec-WebSocket-Protocol")) (protocol_name protocol) then
     after (origin_checked listed host (only (values_of fields (codes "Origin")))) (λ _.
-    after (only (values_of fields (codes "Sec-WebSocket-Key"))) (under_key token))
+    after (only (values_of fields (codes "Sec-WebSocket-Key"))) (under_key protocol token))
     else Err BadRequest)
 
 -- ---- the paths
@@ -97,7 +102,6 @@ abbrev pub source_of : (path : List ℕ) → Option Source
 source_of path =
     if bytes_eq path (codes "/meeting") then Some Meeting
     else if bytes_eq path (codes "/live") then Some Live
-    else if bytes_eq path (codes "/operator/live") then Some Operator
     else None
 
 abbrev pub asked_meeting : Option (List ℕ) → (path : List ℕ) → (is_head : Bool) → Result Wanted Refusal
@@ -116,9 +120,14 @@ abbrev pub token_at : Fields → (path : List ℕ) → Option (List ℕ)
 token_at fields path =
     if bytes_eq path (codes "/bfcp") then Some (token_of (values_of fields (codes "Sec-WebSocket-Protocol"))) else behind path (codes "/bfcp/")
 
+abbrev pub beside_bfcp : List (List ℕ) → Fields → (host path : List ℕ) → (is_head : Bool) → Result Wanted Refusal
+beside_bfcp listed fields host path is_head =
+    if bytes_eq path (codes "/rpc") then asked_socket listed fields host is_head JsonRpc (token_of (values_of fields (codes "Sec-WebSocket-Protocol")))
+    else asked_told fields path is_head
+
 abbrev pub at_token : List (List ℕ) → Fields → (host path : List ℕ) → (is_head : Bool) → Option (List ℕ) → Result Wanted Refusal
-at_token listed fields host path is_head (Some token) = asked_socket listed fields host is_head token
-at_token listed fields host path is_head None = asked_told fields path is_head
+at_token listed fields host path is_head (Some token) = asked_socket listed fields host is_head Bfcp token
+at_token listed fields host path is_head None = beside_bfcp listed fields host path is_head
 
 abbrev pub at_path : List (List ℕ) → Fields → (host path : List ℕ) → (is_head : Bool) → Result Wanted Refusal
 at_path listed fields host path is_head = at_token listed fields host path is_head (token_at fields path)
@@ -134,44 +143,35 @@ with_host listed fields target is_head (Some host) =
 -- ---- by POST
 
 -- the order that stands in the field Order, for whoever has the token behind `Bearer `
-abbrev pub ordered_in : Giver → Result (Option (List ℕ)) Refusal → Fields → Result Wanted Refusal
-ordered_in giver (Ok (Some text)) fields = Ok (order giver (bearer_of (values_of fields (codes "Authorization"))) text)
-ordered_in giver (Ok None) fields = Err BadRequest
-ordered_in giver (Err e) fields = Err e
+abbrev pub ordered_in : Result (Option (List ℕ)) Refusal → Fields → Result Wanted Refusal
+ordered_in (Ok (Some text)) fields = Ok (order (bearer_of (values_of fields (codes "Authorization"))) text)
+ordered_in (Ok None) fields = Err BadRequest
+ordered_in (Err e) fields = Err e
 
-abbrev pub ordered : Giver → Fields → Result Wanted Refusal
-ordered giver fields = ordered_in giver (only (values_of fields (codes "Order"))) fields
+abbrev pub ordered : Fields → Result Wanted Refusal
+ordered fields = ordered_in (only (values_of fields (codes "Order"))) fields
 
 -- without a body
-abbrev pub with_length : Giver → Result (Option (List ℕ)) Refusal → Fields → Result Wanted Refusal
-with_length giver (Ok None) fields = ordered giver fields
-with_length giver (Ok (Some length)) fields = if bytes_eq length (codes "0") then ordered giver fields else Err BadRequest
-with_length giver (Err e) fields = Err e
+abbrev pub with_length : Result (Option (List ℕ)) Refusal → Fields → Result Wanted Refusal
+with_length (Ok None) fields = ordered fields
+with_length (Ok (Some length)) fields = if bytes_eq length (codes "0") then ordered fields else Err BadRequest
+with_length (Err e) fields = Err e
 
-abbrev pub without_body : Giver → Fields → Result Wanted Refusal
-without_body giver fields =
+abbrev pub without_body : Fields → Result Wanted Refusal
+without_body fields =
     if has_field fields (codes "Transfer-Encoding") then Err BadRequest
-    else with_length giver (only (values_of fields (codes "Content-Length"))) fields
+    else with_length (only (values_of fields (codes "Content-Length"))) fields
 
 -- one Host
-abbrev pub posted_to : Giver → Fields → Option (List ℕ) → Result Wanted Refusal
-posted_to giver fields None = Err BadRequest
-posted_to giver fields (Some host) = without_body giver fields
-
--- whose orders are given at a path
-abbrev pub giver_of : (path : List ℕ) → Option Giver
-giver_of path =
-    if bytes_eq path (codes "/operator/order") then Some By.Operator
-    else if bytes_eq path (codes "/order") then Some By.User
-    else None
-
-abbrev pub posted_by : Option Giver → Fields → Result Wanted Refusal
-posted_by (Some giver) fields = after (only (values_of fields (codes "Host"))) (posted_to giver fields)
-posted_by None fields = Err MethodNotAllowed
+abbrev pub posted_to : Fields → Option (List ℕ) → Result Wanted Refusal
+posted_to fields None = Err BadRequest
+posted_to fields (Some host) = without_body fields
 
 -- an order
 abbrev pub posted : Fields → (path : List ℕ) → Result Wanted Refusal
-posted fields path = posted_by (giver_of path) fields
+posted fields path =
+    if bytes_eq path (codes "/order") then after (only (values_of fields (codes "Host"))) (posted_to fields)
+    else Err MethodNotAllowed
 
 -- the order: the method, one Host, no body, and then what its path asks for; what stands behind a `?` isn't looked at
 abbrev pub asked : List (List ℕ) → (method target : List ℕ) → Fields → Result Wanted Refusal
@@ -186,7 +186,7 @@ abbrev pub Answers : Result Wanted Refusal → Result Asked Refusal → Type 0
 Answers (Err e) answer = answer ≡ Err e
 Answers (Ok (page name is_head)) (Ok (Page n h)) = (n.now ≡ name) × (h ≡ is_head)
 Answers (Ok (told source token is_head)) (Ok (Told s t h)) = (s ≡ source) × (t.now ≡ token) × (h ≡ is_head)
-Answers (Ok (order giver token text)) (Ok (Order g t o)) = (g ≡ giver) × (t.now ≡ token) × (o.now ≡ text)
-Answers (Ok (socket token key)) (Err e) = (e ≡ BadRequest) × ¬ (IsValidKey key)
-Answers (Ok (socket token key)) (Ok (Bfcp t accept)) = (t.now ≡ token) × IsValidKey key × (accept ≡ accept_key_of key)
+Answers (Ok (order token text)) (Ok (Order t o)) = (t.now ≡ token) × (o.now ≡ text)
+Answers (Ok (socket protocol token key)) (Err e) = (e ≡ BadRequest) × ¬ (IsValidKey key)
+Answers (Ok (socket protocol token key)) (Ok (Socket p t accept)) = (p ≡ protocol) × (t.now ≡ token) × IsValidKey key × (accept ≡ accept_key_of key)
 Answers _ _ = ⊥

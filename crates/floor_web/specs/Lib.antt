@@ -13,6 +13,8 @@ pub mod Participants
 pub mod Admission
 pub mod Bearer
 pub mod Orders
+pub mod Roles
+pub mod Calls
 pub mod Places
 -- the steps of the proofs
 pub mod steps

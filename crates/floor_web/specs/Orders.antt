@@ -1,12 +1,13 @@
--- What a chair may have done of a meeting beyond its floors, and who may join as a guest: the words of an order, why it is refused, and the lines of the control socket that it comes to.
+-- What a chair may have done of a meeting beyond its floors, and who may join as a guest: the words of an order, why it is refused, and what it calls of the server.
 use Rattle.std.specs.Prelude.{◌≡◌, ◌⊎◌, ℕ, ◌^◌, ◌+◌, ◌==◌, ◌&&◌, not, nat_le, Bool, true, false, List, [], ◌∷◌, ◌++◌, length, filter, bytes_eq, codes, option_and_then, option_map, Option, Some, None, Result, Ok, Err, if◌then◌else◌}
 use Rattle.std.specs.List.{list_all}
 use Rattle.std.specs.Str.{IsUtf8}
 use Rattle.std.specs.Fmt.{decimal}
-use Rattle.hex.specs.Hex.{encode_lower}
 use Rattle.floor_words.specs.Words.{number, spelled, words}
-use Rattle.floor_follow.specs.declared.fact.Fact.{Fact}
-use Rattle.floor_follow.specs.declared.fact.Fact.TheVariants as Is
+use Rattle.floor_rpc.specs.declared.call.Call.{Call}
+use Rattle.floor_rpc.specs.declared.call.Call.TheVariants as call
+use Rattle.floor_rpc.specs.declared.call.Whom.TheVariants as whom
+use Rattle.floor_follow.specs.declared.conference.Picture.{Picture}
 use Rattle.floor_web.specs.declared.order.Order.{Order}
 use Rattle.floor_web.specs.declared.order.Order.TheVariants as Asked
 use Rattle.floor_web.specs.declared.order.Joining.{Joining}
@@ -85,55 +86,49 @@ abbrev pub order_of : List ℕ → Option Said
 order_of text = of_words (words text)
 
 -- why a chair shows a user out by no order
-abbrev pub shows_no_out : (other : ℕ) → List Fact → Option OrderFault
-shows_no_out other facts = if not (has_user other facts) then Some NoUser else if is_chair other facts then Some IsChair else None
+abbrev pub shows_no_out : (other : ℕ) → Picture → Option OrderFault
+shows_no_out other k = if not (has_user other k) then Some NoUser else if is_chair other k then Some IsChair else None
 
-abbrev pub lets_nobody_in : (other : ℕ) → List Fact → Option OrderFault
-lets_nobody_in other facts = if has_user other facts then None else Some NoUser
+abbrev pub lets_nobody_in : (other : ℕ) → Picture → Option OrderFault
+lets_nobody_in other k = if has_user other k then None else Some NoUser
 
 abbrev pub invites_nobody : (token : List ℕ) → Option OrderFault
 invites_nobody token = if is_strong token then None else Some WeakToken
 
-abbrev pub limits_nothing : (user floor : ℕ) → List Fact → Option OrderFault
-limits_nothing user floor facts = if is_chair_of user floor facts then None else Some NotChair
+abbrev pub limits_nothing : (user floor : ℕ) → Picture → Option OrderFault
+limits_nothing user floor k = if is_chair_of user floor k then None else Some NotChair
 
 -- why an order of a chair's is refused: a chair isn't shown out by another, what is told to all as a way in is a strong token, and a floor's limit is its own chair's
-abbrev pub refused : (user : ℕ) → Said → List Fact → Option OrderFault
-refused user (show_out other) facts = shows_no_out other facts
-refused user (let_in other) facts = lets_nobody_in other facts
-refused user lock facts = None
-refused user unlock facts = None
-refused user (invite token) facts = invites_nobody token
-refused user invite_nobody facts = None
-refused user (limit floor seconds) facts = limits_nothing user floor facts
+abbrev pub refused : (user : ℕ) → Said → Picture → Option OrderFault
+refused user (show_out other) k = shows_no_out other k
+refused user (let_in other) k = lets_nobody_in other k
+refused user lock k = None
+refused user unlock k = None
+refused user (invite token) k = invites_nobody token
+refused user invite_nobody k = None
+refused user (limit floor seconds) k = limits_nothing user floor k
 
 -- why an order of a user's is refused: only a chair of the conference, who wasn't shown out, gives one
-abbrev pub refusal : (user : ℕ) → Said → List Fact → Option OrderFault
-refusal user order facts = if is_chair user facts && not (is_out user facts) then refused user order facts else Some NotChair
+abbrev pub refusal : (user : ℕ) → Said → Picture → Option OrderFault
+refusal user order k = if is_chair user k && not (is_out user k) then refused user order k else Some NotChair
 
--- the line that says it at the control socket: of the conference alone
-abbrev pub show_out_line : (conference user : ℕ) → List ℕ
-show_out_line c user = codes "word " ++ (decimal c ++ (codes " out." ++ (decimal user ++ codes " 6f7574\n")))
+-- a word of the conference with this key is set, or taken away
+abbrev pub word_setting : (conference : ℕ) → (key : List ℕ) → Option (List ℕ) → Call
+word_setting c key text = call.WordSet (record { conference = c; key = key; text = text })
 
-abbrev pub let_in_line : (conference user : ℕ) → List ℕ
-let_in_line c user = codes "word " ++ (decimal c ++ (codes " out." ++ (decimal user ++ codes " -\n")))
+-- the seconds in decimal digits; for 0 the word is taken away
+abbrev pub seconds_text : (seconds : ℕ) → Option (List ℕ)
+seconds_text seconds = if seconds == 0 then None else Some (decimal seconds)
 
--- the text of the seconds; nothing for 0
-abbrev pub seconds_text : (seconds : ℕ) → List ℕ
-seconds_text seconds = if seconds == 0 then codes "-" else encode_lower (decimal seconds)
-
-abbrev pub limit_line : (conference floor seconds : ℕ) → List ℕ
-limit_line c floor seconds =
-    codes "word " ++ (decimal c ++ (codes " limit." ++ (decimal floor ++ (codes " " ++ (seconds_text seconds ++ codes "\n")))))
-
-abbrev pub line_of : (conference : ℕ) → Said → List ℕ
-line_of c (show_out user) = show_out_line c user
-line_of c (let_in user) = let_in_line c user
-line_of c lock = codes "word " ++ (decimal c ++ codes " lock 6f6e\n")
-line_of c unlock = codes "word " ++ (decimal c ++ codes " lock -\n")
-line_of c (invite token) = codes "word " ++ (decimal c ++ (codes " guests " ++ (encode_lower token ++ codes "\n")))
-line_of c invite_nobody = codes "word " ++ (decimal c ++ codes " guests -\n")
-line_of c (limit floor seconds) = limit_line c floor seconds
+-- what it calls: of the conference alone
+abbrev pub call_of : (conference : ℕ) → Said → Call
+call_of c (show_out user) = call.MemberRemove (record { conference = c; whom = whom.User user })
+call_of c (let_in user) = call.UserAdmit (record { conference = c; user = user })
+call_of c lock = word_setting c (codes "lock") (Some (codes "on"))
+call_of c unlock = word_setting c (codes "lock") None
+call_of c (invite token) = word_setting c (codes "guests") (Some token)
+call_of c invite_nobody = word_setting c (codes "guests") None
+call_of c (limit floor seconds) = word_setting c (codes "limit." ++ decimal floor) (seconds_text seconds)
 
 -- ---- a guest's
 
@@ -166,24 +161,16 @@ is_shown b = nat_le 32 b && not (b == 127)
 abbrev pub is_name : List ℕ → Bool
 is_name name = nat_le 1 (length name) && nat_le (length name) 60 && list_all is_shown name
 
-abbrev pub is_user : Fact → Bool
-is_user (Is.User p) = true
-is_user (Is.Floor f) = false
-is_user (Is.Request r) = false
-is_user (Is.Reason r) = false
-is_user (Is.Member m) = false
-is_user (Is.Word w) = false
-
-abbrev pub count_users : List Fact → ℕ
-count_users facts = length (filter is_user facts)
+abbrev pub count_users : Picture → ℕ
+count_users k = length k.users
 
 -- the User ID that whoever joins is added by first; or why nobody does: the meeting is locked, the token weak, or the conference has 200 users
-abbrev pub join : (token : List ℕ) → List Fact → Result ℕ OrderFault
-join token facts =
-    if is_locked facts then Err Locked
+abbrev pub join : (token : List ℕ) → Picture → Result ℕ OrderFault
+join token k =
+    if is_locked k then Err Locked
     else if not (is_strong token) then Err WeakToken
-    else if nat_le 200 (count_users facts) then Err Full
-    else Ok (60000 + count_users facts)
+    else if nat_le 200 (count_users k) then Err Full
+    else Ok (60000 + count_users k)
 
 -- the name is what the hexadecimal spells
 abbrev pub Spells : (hexadecimal name : List ℕ) → Type 0
@@ -198,9 +185,9 @@ abbrev pub NoName : (hexadecimal : List ℕ) → OrderFault → Type 0
 NoName hexadecimal fault =
     (fault ≡ Memory) ⊎ ((fault ≡ BadName) × ((bytes : List ℕ) → spelled (hexadecimal ∷ []) ≡ Some bytes → NoText bytes))
 
--- the user's line, and the one that says the token of a user who was added
-abbrev pub guest_line : (conference user : ℕ) → (name : List ℕ) → List ℕ
-guest_line c user name = codes "user " ++ (decimal c ++ (codes " " ++ (decimal user ++ (codes " name " ++ (name ++ codes "\n")))))
+-- the user is added, of this name, and then its token is told
+abbrev pub guest_call : (conference user : ℕ) → (name : List ℕ) → Call
+guest_call c user name = call.UserAdd (record { conference = c; user = record { id = Some user; name = Some name; uri = None; proxy = false; port = None } })
 
-abbrev pub token_line : (conference user : ℕ) → (token : List ℕ) → List ℕ
-token_line c user token = codes "word " ++ (decimal c ++ (codes " guest." ++ (decimal user ++ (codes " " ++ (encode_lower token ++ codes "\n")))))
+abbrev pub token_call : (conference user : ℕ) → (token : List ℕ) → Call
+token_call c user token = word_setting c (codes "guest." ++ decimal user) (Some token)

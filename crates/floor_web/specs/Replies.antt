@@ -1,7 +1,9 @@
 -- The answers of HTTP, as bytes (RFC 9112, sections 4 to 6).
 use Rattle.std.specs.Prelude.{ℕ, Bool, List, [], ◌++◌, length, codes, if◌then◌else◌}
 use Rattle.std.specs.Fmt.{decimal}
+use Rattle.floor_web.specs.declared.asked.Protocol.{Protocol}
 use Rattle.floor_web.specs.declared.pages.Kind.{Kind}
+use Rattle.floor_web.specs.Asked.{protocol_name}
 use Rattle.floor_web.specs.declared.refusal.Refusal.{Refusal}
 use Rattle.floor_web.specs.Kinds.{media_type_of}
 use Rattle.floor_web.specs.Refusal.{status, fields}
@@ -42,7 +44,7 @@ abbrev pub streamed : List ℕ
 streamed =
     line (codes "HTTP/1.1 ") (codes "200 OK") ++ (line (codes "Content-Type: ") (codes "application/x-ndjson") ++ end (codes "X-Accel-Buffering: no\r\n"))
 
-abbrev pub welcomed : (accept : List ℕ) → List ℕ
-welcomed accept =
-    codes "HTTP/1.1 101 Switching Protocols\r\nUpgrade: websocket\r\nConnection: Upgrade\r\nSec-WebSocket-Protocol: bfcp\r\nSec-WebSocket-Accept: "
-    ++ (accept ++ codes "\r\n\r\n")
+abbrev pub welcomed : Protocol → (accept : List ℕ) → List ℕ
+welcomed protocol accept =
+    codes "HTTP/1.1 101 Switching Protocols\r\nUpgrade: websocket\r\nConnection: Upgrade\r\nSec-WebSocket-Protocol: "
+    ++ (protocol_name protocol ++ (codes "\r\nSec-WebSocket-Accept: " ++ (accept ++ codes "\r\n\r\n")))

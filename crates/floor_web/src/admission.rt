@@ -1,19 +1,18 @@
 //! Who is let into a meeting, by what is known of its conference.
 //!
-//! What a chair has ordered stands in words beside the conference, so that it outlives whoever tells it to pages:
+//! Whoever was shown out is removed by the server itself. What else a chair has ordered stands in words beside the
+//! conference, so that it outlives whoever tells it to pages:
 //!
 //! | key | means |
 //! |---|---|
-//! | `out.10` | user 10 was shown out, and stays out until the word is taken away: no token of the user's counts |
 //! | `lock` | nobody new is let in: only the chairs are, and who has a connection, be it lost for now |
-//! | `guests` | whoever has the token that is its value may join as a guest, a new user of the conference |
+//! | `guests` | whoever has the token that is its text may join as a guest, a new user of the conference |
 
 ghost use Rattle.std.specs.Prelude.{◌≡◌};
-ghost use Rattle.std.specs.List.{list_any};
 ghost use Rattle.floor_web.specs.Admission as spec;
 
 use crate::participants::is_strong_token;
-use floor_follow::{Conference, Fact};
+use floor_follow::{Floor, Person, Picture, Word};
 use floor_words::read_u16;
 
 /// Whether a user is let into a meeting.
@@ -28,162 +27,121 @@ pub enum Admission {
 }
 
 /// Whether a user is let into a conference. Takes no memory.
-pub fn admission_of(conference: &Conference, user: u16) -> Admission
-    ensures value { result ≡ spec.admission user conference.now.facts }
+pub fn admission_of(picture: &Picture, user: u16) -> Admission
+    ensures value { result ≡ spec.admission user picture.now }
 {
-    let facts = conference.facts.as_slice();
-    if is_out(facts, user) {
+    if is_out(picture, user) {
         return Admission::ShownOut;
     }
-    if is_locked(facts) && !is_connected(facts, user) && !has_chair(facts, user) {
+    if is_locked(picture) && !is_connected(picture, user) && !is_chair(picture, user) {
         return Admission::Locked;
     }
     Admission::Admitted
 }
 
 /// Whether a user is the chair of one of a conference's floors. Takes no memory.
-pub fn is_chair(conference: &Conference, user: u16) -> bool
-    ensures value { result ≡ spec.is_chair user conference.now.facts }
+pub fn is_chair(picture: &Picture, user: u16) -> bool
+    ensures value { result ≡ spec.is_chair user picture.now }
 {
-    has_chair(conference.facts.as_slice(), user)
-}
-
-/// Whether nobody new is let into a conference. Takes no memory.
-pub(crate) fn is_shut(conference: &Conference) -> bool
-    ensures value { result ≡ spec.is_locked conference.now.facts }
-{
-    is_locked(conference.facts.as_slice())
-}
-
-/// The number of the connection that a fact is of a conference, where its user was shown out: it is to be ended.
-/// Takes no memory.
-pub fn put_out(conference: &Conference, fact: &Fact) -> Option<u32>
-    ensures value { result ≡ spec.put_out conference.now.facts fact.now }
-{
-    match fact {
-        Fact::Member(member) if is_out(conference.facts.as_slice(), member.user) => Some(member.n),
-        _ => None,
-    }
+    picture
+        .floors
+        .as_slice()
+        .iter()
+        .any(|floor| is_this(floor.chair, user))
 }
 
 /// Whether whoever has the token may join a conference as a guest. Takes no memory.
-pub fn is_invitation(conference: &Conference, token: &[u8]) -> bool
-    ensures value { result ≡ spec.is_invitation token.now conference.now.facts }
+pub fn is_invitation(picture: &Picture, token: &[u8]) -> bool
+    ensures value { result ≡ spec.is_invitation token.now picture.now }
 {
-    is_strong_token(token) && invites_any(conference.facts.as_slice(), token)
+    is_strong_token(token) && invites_any(picture, token)
 }
 
-pub(crate) fn is_out(facts: &[Fact], user: u16) -> bool
-    ensures value { result ≡ spec.is_out user facts.now }
+/// Whether a user was shown out of a conference.
+pub(crate) fn is_out(picture: &Picture, user: u16) -> bool
+    ensures value { result ≡ spec.is_out user picture.now }
 {
-    facts.iter().any(|fact| shows_out(fact, user))
+    picture
+        .users
+        .as_slice()
+        .iter()
+        .any(|person| person.id == user && person.is_removed)
 }
 
-pub(crate) fn is_locked(facts: &[Fact]) -> bool
-    ensures value { result ≡ spec.is_locked facts.now }
+/// Whether nobody new is let into a conference.
+pub(crate) fn is_locked(picture: &Picture) -> bool
+    ensures value { result ≡ spec.is_locked picture.now }
 {
-    facts.iter().any(|fact| locks(fact))
+    picture.words.as_slice().iter().any(|word| locks(word))
 }
 
-fn is_connected(facts: &[Fact], user: u16) -> bool
-    ensures value { result ≡ spec.is_connected user facts.now }
+fn is_connected(picture: &Picture, user: u16) -> bool
+    ensures value { result ≡ spec.is_connected user picture.now }
 {
-    facts.iter().any(|fact| is_connection(fact, user))
+    picture
+        .users
+        .as_slice()
+        .iter()
+        .any(|person| has_connection(person, user))
 }
 
-pub(crate) fn has_chair(facts: &[Fact], user: u16) -> bool
-    ensures value { result ≡ spec.is_chair user facts.now }
+pub(crate) fn has_user(picture: &Picture, user: u16) -> bool
+    ensures value { result ≡ spec.has_user user picture.now }
 {
-    facts.iter().any(|fact| is_chaired_by(fact, user))
-}
-
-pub(crate) fn has_user(facts: &[Fact], user: u16) -> bool
-    ensures value { result ≡ spec.has_user user facts.now }
-{
-    facts.iter().any(|fact| is_person(fact, user))
-}
-
-fn invites_any(facts: &[Fact], token: &[u8]) -> bool
-    ensures value { result ≡ list_any (spec.invites token.now) facts.now }
-{
-    facts.iter().any(|fact| invites(fact, token))
-}
-
-/// Whether the fact is a user of the conference, this one.
-fn is_person(fact: &Fact, user: u16) -> bool
-    ensures value { result ≡ spec.is_user user fact.now }
-{
-    match fact {
-        Fact::User(person) => person.id == user,
-        _ => false,
-    }
-}
-
-/// Whether the fact is a floor whose chair is this user.
-fn is_chaired_by(fact: &Fact, user: u16) -> bool
-    ensures value { result ≡ spec.has_chair user fact.now }
-{
-    match fact {
-        Fact::Floor(floor) => is_this(floor.chair, user),
-        _ => false,
-    }
+    picture
+        .users
+        .as_slice()
+        .iter()
+        .any(|person| person.id == user)
 }
 
 /// Whether the user is the chair of this floor.
-pub(crate) fn is_chair_of(facts: &[Fact], user: u16, floor: u16) -> bool
-    ensures value { result ≡ spec.is_chair_of user floor facts.now }
+pub(crate) fn is_chair_of(picture: &Picture, user: u16, floor: u16) -> bool
+    ensures value { result ≡ spec.is_chair_of user floor picture.now }
 {
-    facts.iter().any(|fact| is_chaired(fact, user, floor))
+    picture
+        .floors
+        .as_slice()
+        .iter()
+        .any(|found| is_chaired(found, user, floor))
 }
 
-/// Whether the fact is this floor, and its chair this user.
-fn is_chaired(fact: &Fact, user: u16, floor: u16) -> bool
-    ensures value { result ≡ spec.is_chaired user floor fact.now }
+fn invites_any(picture: &Picture, token: &[u8]) -> bool
+    ensures value { result ≡ spec.invites_any token.now picture.now }
 {
-    match fact {
-        Fact::Floor(found) => found.id == floor && is_this(found.chair, user),
-        _ => false,
-    }
+    picture
+        .words
+        .as_slice()
+        .iter()
+        .any(|word| invites(word, token))
 }
 
-/// Whether the fact is a connection of this user's.
-fn is_connection(fact: &Fact, user: u16) -> bool
-    ensures value { result ≡ spec.is_connection user fact.now }
+/// Whether it is this floor, and its chair this user.
+fn is_chaired(found: &Floor, user: u16, floor: u16) -> bool
+    ensures value { result ≡ spec.is_chaired user floor found.now }
 {
-    match fact {
-        Fact::Member(member) => member.user == user,
-        _ => false,
-    }
+    found.id == floor && is_this(found.chair, user)
 }
 
-/// Whether the fact is the word that this user was shown out.
-fn shows_out(fact: &Fact, user: u16) -> bool
-    ensures value { result ≡ spec.shows_out user fact.now }
+/// Whether it is this user, who has a connection.
+fn has_connection(person: &Person, user: u16) -> bool
+    ensures value { result ≡ spec.has_connection user person.now }
 {
-    match fact {
-        Fact::Word(word) => is_this(user_behind("out", word.key.as_str()), user),
-        _ => false,
-    }
+    person.id == user && !person.members.as_slice().is_empty()
 }
 
-/// Whether the fact is the word that nobody new is let in.
-fn locks(fact: &Fact) -> bool
-    ensures value { result ≡ spec.locks fact.now }
+/// Whether it is the word that nobody new is let in.
+fn locks(word: &Word) -> bool
+    ensures value { result ≡ spec.locks word.now }
 {
-    match fact {
-        Fact::Word(word) => word.key.as_str() == "lock",
-        _ => false,
-    }
+    word.key.as_str() == "lock"
 }
 
-/// Whether the fact is the word that whoever has this token may join as a guest.
-fn invites(fact: &Fact, token: &[u8]) -> bool
-    ensures value { result ≡ spec.invites token.now fact.now }
+/// Whether it is the word that whoever has this token may join as a guest.
+fn invites(word: &Word, token: &[u8]) -> bool
+    ensures value { result ≡ spec.invites token.now word.now }
 {
-    match fact {
-        Fact::Word(word) => word.key.as_str() == "guests" && word.value.as_slice() == token,
-        _ => false,
-    }
+    word.key.as_str() == "guests" && word.text.as_str().as_bytes() == token
 }
 
 /// The user whom a word's key names behind a name and a dot.

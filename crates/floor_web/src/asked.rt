@@ -7,11 +7,10 @@
 //! | `/meeting` | the same; the token stands in the field Authorization, as `Bearer TOKEN` (RFC 6750) |
 //! | `/live` | the same, and again whenever it changes; the token stands in Authorization |
 //! | `/operator` | the operator's page |
-//! | `/operator/live` | how all conferences stand, and again what changes; the operator's token stands in Authorization |
-//! | `/operator/order`, by POST | that what stands in the field Order be done; the operator's token stands in Authorization |
-//! | `/order`, by POST | the same; the token is a user's, or that of a link for guests |
+//! | `/order`, by POST | that what stands in the field Order be done; the token, a user's or that of a link for guests, stands in Authorization |
 //! | `/bfcp/TOKEN` | a WebSocket for the user with the token |
 //! | `/bfcp` | the same; the token is offered beside the subprotocol, as `bfcp, token.TOKEN` |
+//! | `/rpc` | a WebSocket for whoever has the token of a role, which is offered as `jsonrpc, token.TOKEN` |
 
 ghost use Rattle.std.specs.Prelude.{◌≡◌, ◌==◌, All, codes, find, is_some, length, map, string_bytes, Ok, Some};
 ghost use Rattle.std.specs.List.{before_first};
@@ -34,17 +33,27 @@ pub enum Source {
     Meeting,
     /// The same, and again whenever it changes.
     Live,
-    /// How all conferences stand, and again what changes, by the operator's token.
-    Operator,
 }
 
-/// Whose an order is.
+/// What a WebSocket carries.
 #[derive(Clone, Copy, Debug, PartialEq, Eq)]
-pub enum Giver {
-    /// The operator's.
-    Operator,
-    /// A user's, or a guest's who wants to become one.
-    User,
+pub enum Protocol {
+    /// Messages of BFCP (RFC 8857).
+    Bfcp,
+    /// Lines of JSON-RPC, by which the server is administered.
+    JsonRpc,
+}
+
+impl Protocol {
+    /// The name of its subprotocol (RFC 6455, section 1.9).
+    pub fn name(self) -> &'static str
+        ensures value { result.now ≡ spec.protocol_name self }
+    {
+        match self {
+            Protocol::Bfcp => "bfcp",
+            Protocol::JsonRpc => "jsonrpc",
+        }
+    }
 }
 
 /// What a request asks for.
@@ -63,12 +72,12 @@ pub enum Asked<'a> {
     },
     /// That something be done, by whoever has the token.
     Order {
-        giver: Giver,
         token: &'a [u8],
         order: &'a [u8],
     },
     /// A WebSocket for whoever has the token, and the key that its handshake is answered by.
-    Bfcp {
+    Socket {
+        protocol: Protocol,
         token: &'a [u8],
         accept: [u8; 28],
     },
@@ -105,56 +114,38 @@ fn posted<'a>(head: &'a [u8], spans: &[HeaderSpan], path: &[u8]) -> Result<Asked
     requires within { All (IsHeaderWithin (length head.now)) spans.now }
     ensures value { spec.Answers (spec.posted (fields_of head.now spans.now) path.now) result }
 {
-    let Some(giver) = giver_of(path) else {
+    if path != b"/order".as_slice() {
         return Err(Refusal::MethodNotAllowed);
-    };
+    }
     match only(head, spans, b"Host") {
-        Ok(Some(_)) => without_body(giver, head, spans),
+        Ok(Some(_)) => without_body(head, spans),
         Ok(None) => Err(Refusal::BadRequest),
         Err(refusal) => Err(refusal),
     }
 }
 
-/// Whose orders are given at a path.
-fn giver_of(path: &[u8]) -> Option<Giver>
-    ensures value { result ≡ spec.giver_of path.now }
-{
-    if path == b"/operator/order".as_slice() {
-        return Some(Giver::Operator);
-    }
-    if path == b"/order".as_slice() {
-        return Some(Giver::User);
-    }
-    None
-}
-
 /// The order, where no body follows.
-fn without_body<'a>(
-    giver: Giver,
-    head: &'a [u8],
-    spans: &[HeaderSpan],
-) -> Result<Asked<'a>, Refusal>
+fn without_body<'a>(head: &'a [u8], spans: &[HeaderSpan]) -> Result<Asked<'a>, Refusal>
     requires within { All (IsHeaderWithin (length head.now)) spans.now }
-    ensures value { spec.Answers (spec.without_body giver (fields_of head.now spans.now)) result }
+    ensures value { spec.Answers (spec.without_body (fields_of head.now spans.now)) result }
 {
     if has_field(head, spans, b"Transfer-Encoding") {
         return Err(Refusal::BadRequest);
     }
     match only(head, spans, b"Content-Length") {
         Ok(Some(length)) if length != b"0".as_slice() => Err(Refusal::BadRequest),
-        Ok(_) => ordered(giver, head, spans),
+        Ok(_) => ordered(head, spans),
         Err(refusal) => Err(refusal),
     }
 }
 
 /// The order that stands in the field Order.
-fn ordered<'a>(giver: Giver, head: &'a [u8], spans: &[HeaderSpan]) -> Result<Asked<'a>, Refusal>
+fn ordered<'a>(head: &'a [u8], spans: &[HeaderSpan]) -> Result<Asked<'a>, Refusal>
     requires within { All (IsHeaderWithin (length head.now)) spans.now }
-    ensures value { spec.Answers (spec.ordered giver (fields_of head.now spans.now)) result }
+    ensures value { spec.Answers (spec.ordered (fields_of head.now spans.now)) result }
 {
     match only(head, spans, b"Order") {
         Ok(Some(order)) => Ok(Asked::Order {
-            giver,
             token: token_borne(head, spans, b"Authorization"),
             order,
         }),
@@ -204,9 +195,29 @@ fn at_path<'a>(
         (fields_of head.now spans.now) host.now path.now is_head) result }
 {
     match token_at(head, spans, path) {
-        Some(token) => socket(origins, head, spans, host, is_head, token),
-        None => told(head, spans, path, is_head),
+        Some(token) => socket(origins, head, spans, host, is_head, Protocol::Bfcp, token),
+        None => beside_bfcp(origins, head, spans, host, path, is_head),
     }
+}
+
+/// What a path asks for that asks for no WebSocket of BFCP.
+fn beside_bfcp<'a>(
+    origins: &Origins,
+    head: &'a [u8],
+    spans: &[HeaderSpan],
+    host: &[u8],
+    path: &'a [u8],
+    is_head: bool,
+) -> Result<Asked<'a>, Refusal>
+    requires within { All (IsHeaderWithin (length head.now)) spans.now }
+    ensures value { spec.Answers (spec.beside_bfcp (map string_bytes origins.now.listed.items)
+        (fields_of head.now spans.now) host.now path.now is_head) result }
+{
+    if path == b"/rpc".as_slice() {
+        let token = token_offered(head, spans, b"Sec-WebSocket-Protocol");
+        return socket(origins, head, spans, host, is_head, Protocol::JsonRpc, token);
+    }
+    told(head, spans, path, is_head)
 }
 
 fn told<'a>(
@@ -245,9 +256,6 @@ fn source_of(path: &[u8]) -> Option<Source>
     }
     if path == b"/live".as_slice() {
         return Some(Source::Live);
-    }
-    if path == b"/operator/live".as_slice() {
-        return Some(Source::Operator);
     }
     None
 }
@@ -342,22 +350,23 @@ fn socket<'a>(
     spans: &[HeaderSpan],
     host: &[u8],
     is_head: bool,
+    protocol: Protocol,
     token: &'a [u8],
 ) -> Result<Asked<'a>, Refusal>
     requires within { All (IsHeaderWithin (length head.now)) spans.now }
     ensures value { spec.Answers (spec.asked_socket (map string_bytes origins.now.listed.items)
-        (fields_of head.now spans.now) host.now is_head token.now) result }
+        (fields_of head.now spans.now) host.now is_head protocol token.now) result }
 {
     if is_head {
         return Err(Refusal::MethodNotAllowed);
     }
     check_upgrade(head, spans)?;
-    if !offers(head, spans, b"Sec-WebSocket-Protocol", b"bfcp") {
+    if !offers(head, spans, b"Sec-WebSocket-Protocol", protocol.name().as_bytes()) {
         return Err(Refusal::BadRequest);
     }
     check_origin(origins, head, spans, host)?;
     match only(head, spans, b"Sec-WebSocket-Key") {
-        Ok(Some(key)) => under_key(token, key),
+        Ok(Some(key)) => under_key(protocol, token, key),
         Ok(None) => Err(Refusal::BadRequest),
         Err(refusal) => Err(refusal),
     }
@@ -399,11 +408,19 @@ fn check_origin(
 }
 
 /// The WebSocket under this key of its handshake.
-fn under_key<'a>(token: &'a [u8], key: &[u8]) -> Result<Asked<'a>, Refusal>
-    ensures value { spec.Answers (Ok (spec.socket token.now key.now)) result }
+fn under_key<'a>(
+    protocol: Protocol,
+    token: &'a [u8],
+    key: &[u8],
+) -> Result<Asked<'a>, Refusal>
+    ensures value { spec.Answers (Ok (spec.socket protocol token.now key.now)) result }
 {
     match accept_key(key) {
-        Ok(accept) => Ok(Asked::Bfcp { token, accept }),
+        Ok(accept) => Ok(Asked::Socket {
+            protocol,
+            token,
+            accept,
+        }),
         Err(_) => Err(Refusal::BadRequest),
     }
 }

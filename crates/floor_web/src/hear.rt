@@ -78,7 +78,7 @@ fn hear(
 
 /// Reads the frame at the front of the browser's bytes, and adds the reply that it asks for. The
 /// frame stays in front, without its mask.
-fn read_frame(
+pub(crate) fn read_frame(
     context: &mut WebSocketContext,
     unread: &mut BytesMut,
     down: &mut Vec<u8>,

@@ -1,7 +1,7 @@
 //! What a chair may have done of a meeting beyond its floors, and how somebody joins who has the link for all.
 //!
 //! A chair of a conference may order it of that conference alone, by the token that a page has. Each order comes to one
-//! line of the server's control socket, and what it changes is a word beside the conference.
+//! call of the server.
 //!
 //! | order | by | what it does |
 //! |---|---|---|
@@ -11,14 +11,16 @@
 //! | `limit 1 120`, `limit 1 0` | the chair of floor 1 | one should have it for 120 seconds; as long as one likes |
 //! | `join TOKEN NAME` | whoever has that link | a user of this name, in hexadecimal, is added, and has this token of its own |
 
-ghost use Rattle.std.specs.Prelude.{◌≡◌, IfErr, IfOk, map, option_map, string_bytes, true};
+ghost use Rattle.std.specs.Prelude.{◌≡◌, ◌++◌, IfErr, IfOk, codes, map, option_map, string_bytes, true};
 ghost use Rattle.std.specs.List.{list_all};
+ghost use Rattle.std.specs.Fmt.{decimal};
 ghost use Rattle.floor_web.specs.Orders as spec;
 ghost use Rattle.floor_web.specs.declared.order.OrderFault.TheVariants.{BadName};
 
-use crate::admission::{has_chair, has_user, is_chair_of, is_locked, is_out};
+use crate::admission::{has_user, is_chair, is_chair_of, is_locked, is_out};
 use crate::participants::is_strong_token;
-use floor_follow::{Conference, Fact};
+use floor_follow::{Picture, Text};
+use floor_rpc::{Call, NewUser, OfUser, Removal, UserAddition, Whom, WordSetting};
 use floor_words::{HexadecimalFault, read_hexadecimal, read_u16, words};
 use std::alloc::{AllocError, Global};
 
@@ -175,28 +177,27 @@ fn guests(token: &str) -> Order<'_>
 }
 
 /// Why a user's order of a conference is refused, if it is. Takes no memory.
-pub fn refusal_of(conference: &Conference, user: u16, order: Order<'_>) -> Option<OrderFault>
-    ensures value { result ≡ spec.refusal user (spec.said order.entry) conference.now.facts }
+pub fn refusal_of(picture: &Picture, user: u16, order: Order<'_>) -> Option<OrderFault>
+    ensures value { result ≡ spec.refusal user (spec.said order.entry) picture.now }
 {
-    let facts = conference.facts.as_slice();
-    if has_chair(facts, user) && !is_out(facts, user) {
-        refused(facts, user, order)
+    if is_chair(picture, user) && !is_out(picture, user) {
+        refused(picture, user, order)
     } else {
         Some(OrderFault::NotChair)
     }
 }
 
-fn refused(facts: &[Fact], user: u16, order: Order<'_>) -> Option<OrderFault>
-    ensures value { result ≡ spec.refused user (spec.said order.entry) facts.now }
+fn refused(picture: &Picture, user: u16, order: Order<'_>) -> Option<OrderFault>
+    ensures value { result ≡ spec.refused user (spec.said order.entry) picture.now }
 {
     match order {
-        Order::ShowOut(other) => shows_no_out(facts, other),
-        Order::LetIn(other) => lets_nobody_in(facts, other),
+        Order::ShowOut(other) => shows_no_out(picture, other),
+        Order::LetIn(other) => lets_nobody_in(picture, other),
         Order::Invite(token) => invites_nobody(token),
         Order::Limit {
             floor,
             seconds: _seconds,
-        } => limits_nothing(facts, user, floor),
+        } => limits_nothing(picture, user, floor),
         Order::Lock => None,
         Order::Unlock => None,
         Order::InviteNobody => None,
@@ -204,10 +205,10 @@ fn refused(facts: &[Fact], user: u16, order: Order<'_>) -> Option<OrderFault>
 }
 
 /// Why a chair doesn't let a user in again.
-fn lets_nobody_in(facts: &[Fact], user: u16) -> Option<OrderFault>
-    ensures value { result ≡ spec.lets_nobody_in user facts.now }
+fn lets_nobody_in(picture: &Picture, user: u16) -> Option<OrderFault>
+    ensures value { result ≡ spec.lets_nobody_in user picture.now }
 {
-    if has_user(facts, user) {
+    if has_user(picture, user) {
         None
     } else {
         Some(OrderFault::NoUser)
@@ -226,10 +227,10 @@ fn invites_nobody(token: &str) -> Option<OrderFault>
 }
 
 /// Why a user sets no limit for a floor.
-fn limits_nothing(facts: &[Fact], user: u16, floor: u16) -> Option<OrderFault>
-    ensures value { result ≡ spec.limits_nothing user floor facts.now }
+fn limits_nothing(picture: &Picture, user: u16, floor: u16) -> Option<OrderFault>
+    ensures value { result ≡ spec.limits_nothing user floor picture.now }
 {
-    if is_chair_of(facts, user, floor) {
+    if is_chair_of(picture, user, floor) {
         None
     } else {
         Some(OrderFault::NotChair)
@@ -237,78 +238,73 @@ fn limits_nothing(facts: &[Fact], user: u16, floor: u16) -> Option<OrderFault>
 }
 
 /// Why a chair doesn't show a user out.
-fn shows_no_out(facts: &[Fact], user: u16) -> Option<OrderFault>
-    ensures value { result ≡ spec.shows_no_out user facts.now }
+fn shows_no_out(picture: &Picture, user: u16) -> Option<OrderFault>
+    ensures value { result ≡ spec.shows_no_out user picture.now }
 {
-    if !has_user(facts, user) {
+    if !has_user(picture, user) {
         return Some(OrderFault::NoUser);
     }
-    if has_chair(facts, user) {
+    if is_chair(picture, user) {
         return Some(OrderFault::IsChair);
     }
     None
 }
 
-/// The line of the control socket that an order of a conference comes to.
-pub fn line_of(alloc: Global, conference: u32, order: Order<'_>) -> Result<String, AllocError>
-    ensures value { IfOk result (λ line. string_bytes line
-        ≡ spec.line_of conference (spec.said order.entry)) }
+/// What an order of a conference calls of the server.
+pub fn call_of(alloc: Global, conference: u32, order: Order<'_>) -> Result<Call, AllocError>
+    ensures value { IfOk result (λ call. call
+        ≡ spec.call_of conference (spec.said order.entry)) }
 {
     match order {
-        Order::ShowOut(user) => show_out_line(alloc, conference, user),
-        Order::LetIn(user) => let_in_line(alloc, conference, user),
-        Order::Lock => format!(in alloc; "word {conference} lock 6f6e\n"),
-        Order::Unlock => format!(in alloc; "word {conference} lock -\n"),
-        Order::Invite(token) => invite_line(alloc, conference, token),
-        Order::InviteNobody => format!(in alloc; "word {conference} guests -\n"),
-        Order::Limit { floor, seconds } => limit_line(alloc, conference, floor, seconds),
+        Order::ShowOut(user) => Ok(Call::MemberRemove(Removal {
+            conference,
+            whom: Whom::User(user),
+        })),
+        Order::LetIn(user) => Ok(Call::UserAdmit(OfUser { conference, user })),
+        Order::Lock => word_call(alloc, conference, "lock", "on"),
+        Order::Unlock => no_word_call(alloc, conference, "lock"),
+        Order::Invite(token) => word_call(alloc, conference, "guests", token),
+        Order::InviteNobody => no_word_call(alloc, conference, "guests"),
+        Order::Limit { floor, seconds } => limit_call(alloc, conference, floor, seconds),
     }
 }
 
-/// The line that shows a user out.
-pub fn show_out_line(alloc: Global, conference: u32, user: u16) -> Result<String, AllocError>
-    ensures value { IfOk result (λ line. string_bytes line ≡ spec.show_out_line conference user) }
+/// What sets a word.
+fn word_call(alloc: Global, conference: u32, key: &str, text: &str) -> Result<Call, AllocError>
+    ensures value { IfOk result (λ call. call
+        ≡ spec.word_setting conference key.now (Some text.now)) }
 {
-    format!(in alloc; "word {conference} out.{user} 6f7574\n")
+    let key = Text::from_string(String::from_str(alloc, key)?);
+    let text = Text::from_string(String::from_str(alloc, text)?);
+    Ok(Call::WordSet(WordSetting {
+        conference,
+        key,
+        text: Some(text),
+    }))
 }
 
-/// The line that lets a user in again.
-pub fn let_in_line(alloc: Global, conference: u32, user: u16) -> Result<String, AllocError>
-    ensures value { IfOk result (λ line. string_bytes line ≡ spec.let_in_line conference user) }
+/// What takes a word away.
+fn no_word_call(alloc: Global, conference: u32, key: &str) -> Result<Call, AllocError>
+    ensures value { IfOk result (λ call. call ≡ spec.word_setting conference key.now None) }
 {
-    format!(in alloc; "word {conference} out.{user} -\n")
+    let key = Text::from_string(String::from_str(alloc, key)?);
+    Ok(Call::WordSet(WordSetting {
+        conference,
+        key,
+        text: None,
+    }))
 }
 
-fn invite_line(alloc: Global, conference: u32, token: &str) -> Result<String, AllocError>
-    ensures value { IfOk result (λ line. string_bytes line
-        ≡ spec.line_of conference (spec.invite token.now)) }
+fn limit_call(alloc: Global, conference: u32, floor: u16, seconds: u16) -> Result<Call, AllocError>
+    ensures value { IfOk result (λ call. call ≡ spec.word_setting conference
+        (codes "limit." ++ decimal floor) (spec.seconds_text seconds)) }
 {
-    let token = hex::encode(alloc, token.as_bytes())?;
-    format!(in alloc; "word {conference} guests {token}\n")
-}
-
-fn limit_line(
-    alloc: Global,
-    conference: u32,
-    floor: u16,
-    seconds: u16,
-) -> Result<String, AllocError>
-    ensures value { IfOk result (λ line. string_bytes line
-        ≡ spec.limit_line conference floor seconds) }
-{
-    let text = seconds_text(alloc, seconds)?;
-    format!(in alloc; "word {conference} limit.{floor} {text}\n")
-}
-
-/// The seconds in decimal digits, in hexadecimal; for 0 what takes a word away.
-fn seconds_text(alloc: Global, seconds: u16) -> Result<String, AllocError>
-    ensures value { IfOk result (λ text. string_bytes text ≡ spec.seconds_text seconds) }
-{
+    let key = format!(in alloc; "limit.{floor}")?;
     if seconds == 0 {
-        return String::from_str(alloc, "-");
+        return no_word_call(alloc, conference, key.as_str());
     }
-    let digits = format!(in alloc; "{seconds}")?;
-    hex::encode(alloc, digits.as_bytes())
+    let text = format!(in alloc; "{seconds}")?;
+    word_call(alloc, conference, key.as_str(), text.as_str())
 }
 
 /// Somebody who joins.
@@ -351,37 +347,20 @@ fn joined_by<'a>(word: &str, token: &'a str, name: &'a str) -> Option<Joining<'a
 
 /// The User ID by which somebody with this token is added first: where it is taken, the next is tried. Else why nobody
 /// joins: `Locked`, `WeakToken` or `Full`. Takes no memory.
-pub fn join(conference: &Conference, token: &[u8]) -> Result<u16, OrderFault>
-    ensures value { result ≡ spec.join token.now conference.now.facts }
+pub fn join(picture: &Picture, token: &[u8]) -> Result<u16, OrderFault>
+    ensures value { result ≡ spec.join token.now picture.now }
 {
-    let facts = conference.facts.as_slice();
-    if is_locked(facts) {
+    if is_locked(picture) {
         return Err(OrderFault::Locked);
     }
     if !is_strong_token(token) {
         return Err(OrderFault::WeakToken);
     }
-    let count = count_users(facts);
+    let count = picture.users.as_slice().len();
     if MAX_USERS_WITH_GUESTS <= count {
         return Err(OrderFault::Full);
     }
     Ok(FIRST_GUEST + count as u16)
-}
-
-/// How many users there are.
-fn count_users(facts: &[Fact]) -> usize
-    ensures value { result ≡ spec.count_users facts.now }
-{
-    facts.iter().filter(|fact| is_user(fact)).count()
-}
-
-fn is_user(fact: &Fact) -> bool
-    ensures value { result ≡ spec.is_user fact.now }
-{
-    match fact {
-        Fact::User(_) => true,
-        _ => false,
-    }
 }
 
 /// The name that a guest's hexadecimal spells. Else `BadName`.
@@ -424,29 +403,37 @@ fn has_shown_bytes_alone(name: &[u8]) -> bool
     name.iter().all(|b| 32 <= *b && *b != 127)
 }
 
-/// The line that adds a guest.
-pub fn guest_line(
+/// What adds a guest.
+pub fn guest_call(
     alloc: Global,
     conference: u32,
     user: u16,
     name: &str,
-) -> Result<String, AllocError>
-    ensures value { IfOk result (λ line. string_bytes line
-        ≡ spec.guest_line conference user name.now) }
+) -> Result<Call, AllocError>
+    ensures value { IfOk result (λ call. call ≡ spec.guest_call conference user name.now) }
 {
-    format!(in alloc; "user {conference} {user} name {name}\n")
+    let name = Text::from_string(String::from_str(alloc, name)?);
+    Ok(Call::UserAdd(UserAddition {
+        conference,
+        user: NewUser {
+            id: Some(user),
+            name: Some(name),
+            uri: None,
+            proxy: false,
+            port: None,
+        },
+    }))
 }
 
-/// The line that says the token of a guest who was added.
-pub fn token_line(
+/// What says the token of a guest who was added.
+pub fn token_call(
     alloc: Global,
     conference: u32,
     user: u16,
     token: &str,
-) -> Result<String, AllocError>
-    ensures value { IfOk result (λ line. string_bytes line
-        ≡ spec.token_line conference user token.now) }
+) -> Result<Call, AllocError>
+    ensures value { IfOk result (λ call. call ≡ spec.token_call conference user token.now) }
 {
-    let token = hex::encode(alloc, token.as_bytes())?;
-    format!(in alloc; "word {conference} guest.{user} {token}\n")
+    let key = format!(in alloc; "guest.{user}")?;
+    word_call(alloc, conference, key.as_str(), token)
 }

@@ -1,5 +1,4 @@
-//! What pages are told of a conference that is followed at the control socket, as JSON: a user's page of its
-//! meeting, and the operator's of all.
+//! What a user's page is told of its meeting, as JSON, where the conference is followed at the control socket.
 //!
 //! What floorhub doesn't know stands in words beside the conference:
 //!
@@ -18,10 +17,9 @@
 ghost use Rattle.std.specs.Prelude.{◌≡◌, find, is_some, option_copied};
 ghost use Rattle.floor_web.specs.Bearer as spec;
 
-use crate::admission::{Admission, admission_of, is_chair, is_out, is_shut, user_behind};
+use crate::admission::{Admission, admission_of, is_chair, is_locked, user_behind};
 use crate::participants::is_strong_token;
-use crate::titles::Titles;
-use floor_follow::{Conference, Fact, Member, Octets, Person, Phase, RequestStatus};
+use floor_follow::{Person, Phase, Picture, Text, Word};
 use floor_words::read_u16;
 use serde::Serialize;
 use std::alloc::{AllocError, Global};
@@ -74,14 +72,6 @@ struct ShownFloor<'a> {
     limit: Option<u16>,
 }
 
-/// A user of the conference.
-#[derive(Drop, Serialize)]
-struct ShownUser<'a> {
-    id: u16,
-    name: &'a str,
-    out: bool,
-}
-
 /// A user of the conference, and how a page is told whether the user is in it: `here`, `away` (the connection is
 /// lost, and the place is kept) or `gone`; whether the user has joined by the link for guests, and was shown out.
 #[derive(Drop, Serialize)]
@@ -93,86 +83,45 @@ struct ShownParticipant<'a> {
     out: bool,
 }
 
-/// What the operator's page is told.
-#[derive(Drop, Serialize)]
-struct Overview<'a> {
-    conference: u32,
-    title: &'a str,
-    phase: &'static str,
-    events: u64,
-    locked: bool,
-    floors: Vec<ShownFloor<'a>>,
-    users: Vec<ShownUser<'a>>,
-    members: Vec<ShownMember>,
-    requests: Vec<ShownRequest>,
-    reasons: Vec<ShownReason<'a>>,
-}
-
-/// A live member.
-#[derive(Drop, Serialize)]
-struct ShownMember {
-    n: u32,
-    user: u16,
-    away: bool,
-}
-
-/// A floor request at one of its floors.
-#[derive(Drop, Serialize)]
-struct ShownRequest {
-    request: u16,
-    floor: u16,
-    user: Option<u16>,
-    by: Option<u16>,
-    status: &'static str,
-    position: u16,
-}
-
-/// What is said of a floor request.
-#[derive(Drop, Serialize)]
-struct ShownReason<'a> {
-    request: u16,
-    text: &'a str,
-}
-
 /// Whom a token stands for by a word of the conference: the first word whose key is `token.` and a user, and
 /// which is this token, if it is a strong one.
-pub fn bearer(conference: &Conference, token: &[u8]) -> Option<u16>
-    ensures found { result ≡ spec.bearer token.now conference.now.facts }
+pub fn bearer(picture: &Picture, token: &[u8]) -> Option<u16>
+    ensures found { result ≡ spec.bearer token.now picture.now }
 {
     if is_strong_token(token) {
-        return bearer_among(conference.facts.as_slice(), token);
+        return bearer_among(picture.words.as_slice(), token);
     }
     None
 }
 
-/// The user whose token this is by the first fact that says so.
-fn bearer_among(facts: &[Fact], token: &[u8]) -> Option<u16>
-    ensures found { result ≡ spec.bearer_among token.now facts.now }
+/// The user whose token this is by the first word that says so.
+fn bearer_among(words: &[Word], token: &[u8]) -> Option<u16>
+    ensures found { result ≡ spec.bearer_among token.now words.now }
 {
-    match token_word(facts, token) {
+    match token_word(words, token) {
         None => None,
-        Some(fact) => user_of_token(fact, token),
+        Some(word) => user_of_token(word, token),
     }
 }
 
-/// The first fact that says whose token this is.
-fn token_word<'a>(facts: &'a [Fact], token: &[u8]) -> Option<&'a Fact>
+/// The first word that says whose token this is.
+fn token_word<'a>(words: &'a [Word], token: &[u8]) -> Option<&'a Word>
     ensures found { option_copied result
-        ≡ find (λ fact. is_some (spec.user_of_token token.now fact)) facts.now }
+        ≡ find (λ w. is_some (spec.user_of_token token.now w)) words.now }
 {
-    facts
+    words
         .iter()
-        .find(|fact| user_of_token(fact, token).is_some())
+        .find(|word| user_of_token(word, token).is_some())
 }
 
-/// The user whose token a fact says this to be.
-fn user_of_token(fact: &Fact, token: &[u8]) -> Option<u16>
-    ensures value { result ≡ spec.user_of_token token.now fact.now }
+/// The user whose token a word says this to be.
+fn user_of_token(word: &Word, token: &[u8]) -> Option<u16>
+    ensures value { result ≡ spec.user_of_token token.now word.now }
 {
-    match fact {
-        Fact::Word(word) if word.value.as_slice() == token => user_of_key(word.key.as_str()),
-        _ => None,
+    if word.text.as_str().as_bytes() == token {
+        return user_of_key(word.key.as_str());
     }
+    None
 }
 
 /// The user of a word's key, `token.` or `guest.` and the User ID.
@@ -188,60 +137,57 @@ fn user_of_key(key: &str) -> Option<u16>
 /// What the page of a user is told of a conference, or that the user isn't let in; `None` where it has no such user.
 pub fn meeting_of(
     alloc: Global,
-    conference: &Conference,
+    conference: u32,
+    picture: &Picture,
     user: u16,
-    titles: &Titles,
 ) -> Result<Option<String>, AllocError> {
-    let Some(person) = person_of(conference, user) else {
+    let Some(person) = person_of(picture, user) else {
         return Ok(None);
     };
-    let refused = match admission_of(conference, user) {
+    let refused = match admission_of(picture, user) {
         Admission::Admitted => "",
         Admission::ShownOut => "out",
         Admission::Locked => "locked",
     };
+    let title = value_of(picture, "title");
     if !refused.is_empty() {
         let told = NotAdmitted {
-            conference: conference.number,
-            title: title_of(alloc, conference, None, titles)?,
+            conference,
+            title,
             refused,
         };
         return written(serde_json::to_string(alloc, &told)).map(Some);
     }
-    let guests = if is_chair(conference, user) {
-        value_of(conference, "guests").unwrap_or("")
+    let guests = if is_chair(picture, user) {
+        value_of(picture, "guests")
     } else {
         ""
     };
     let meeting = Meeting {
-        conference: conference.number,
-        title: title_of(alloc, conference, None, titles)?,
+        conference,
+        title,
         user,
         name: text_of(&person.name),
         proxy: person.proxy,
-        ended: conference.phase != Phase::Running,
-        grace: read_seconds(value_of(conference, "grace").unwrap_or("")),
-        priorities: value_of(conference, "priorities").unwrap_or(""),
-        locked: is_shut(conference),
+        ended: picture.phase != Phase::Running,
+        grace: read_seconds(value_of(picture, "grace")),
+        priorities: value_of(picture, "priorities"),
+        locked: is_locked(picture),
         guests,
-        floors: floors_of(alloc, conference, titles)?,
-        users: participants_of(alloc, conference)?,
+        floors: floors_of(alloc, picture)?,
+        users: participants_of(alloc, picture)?,
     };
     written(serde_json::to_string(alloc, &meeting)).map(Some)
 }
 
 /// What the page of somebody is told who has the link for guests.
-pub fn guest_of(
-    alloc: Global,
-    conference: &Conference,
-    titles: &Titles,
-) -> Result<String, AllocError> {
+pub fn guest_of(alloc: Global, conference: u32, picture: &Picture) -> Result<String, AllocError> {
     let welcome = Welcome {
-        conference: conference.number,
-        title: title_of(alloc, conference, None, titles)?,
+        conference,
+        title: value_of(picture, "title"),
         guest: true,
-        locked: is_shut(conference),
-        ended: conference.phase != Phase::Running,
+        locked: is_locked(picture),
+        ended: picture.phase != Phase::Running,
     };
     written(serde_json::to_string(alloc, &welcome))
 }
@@ -254,239 +200,95 @@ fn written(text: Result<String, serde_json::Error>) -> Result<String, AllocError
     }
 }
 
-/// What the operator's page is told of a conference.
-pub fn overview_of<'a>(
-    alloc: Global,
-    conference: &'a Conference,
-    titles: &'a Titles,
-) -> Result<String, AllocError> {
-    let overview = Overview {
-        conference: conference.number,
-        title: title_of(alloc, conference, None, titles)?,
-        phase: conference.phase.name(),
-        events: conference.events,
-        locked: is_shut(conference),
-        floors: floors_of(alloc, conference, titles)?,
-        users: users_of(alloc, conference)?,
-        members: members_of(alloc, conference)?,
-        requests: requests_of(alloc, conference)?,
-        reasons: reasons_of(alloc, conference)?,
-    };
-    written(serde_json::to_string(alloc, &overview))
-}
-
-fn person_of(conference: &Conference, user: u16) -> Option<&Person> {
-    for fact in conference.facts.as_slice() {
-        match fact {
-            Fact::User(person) if person.id == user => return Some(person),
-            _ => {}
-        }
-    }
-    None
+fn person_of(picture: &Picture, user: u16) -> Option<&Person> {
+    picture
+        .users
+        .as_slice()
+        .iter()
+        .find(|person| person.id == user)
 }
 
 fn floors_of<'a>(
     alloc: Global,
-    conference: &'a Conference,
-    titles: &'a Titles,
+    picture: &'a Picture,
 ) -> Result<Vec<ShownFloor<'a>>, AllocError> {
     let mut floors = Vec::new(alloc);
-    for fact in conference.facts.as_slice() {
-        if let Fact::Floor(floor) = fact {
-            floors.push(ShownFloor {
-                id: floor.id,
-                title: title_of(alloc, conference, Some(floor.id), titles)?,
-                room: floor.room,
-                chair: floor.chair,
-                kind: word_of(alloc, conference, "kind", floor.id)?,
-                limit: read_seconds(word_of(alloc, conference, "limit", floor.id)?),
-            })?;
-        }
+    for floor in picture.floors.as_slice() {
+        floors.push(ShownFloor {
+            id: floor.id,
+            title: word_of(alloc, picture, "title", floor.id)?,
+            room: floor.room,
+            chair: floor.chair,
+            kind: word_of(alloc, picture, "kind", floor.id)?,
+            limit: read_seconds(word_of(alloc, picture, "limit", floor.id)?),
+        })?;
     }
     Ok(floors)
 }
 
-fn users_of<'a>(
-    alloc: Global,
-    conference: &'a Conference,
-) -> Result<Vec<ShownUser<'a>>, AllocError> {
-    let mut users = Vec::new(alloc);
-    for fact in conference.facts.as_slice() {
-        if let Fact::User(person) = fact {
-            users.push(ShownUser {
-                id: person.id,
-                name: text_of(&person.name),
-                out: is_out(conference.facts.as_slice(), person.id),
-            })?;
-        }
-    }
-    Ok(users)
-}
-
 fn participants_of<'a>(
     alloc: Global,
-    conference: &'a Conference,
+    picture: &'a Picture,
 ) -> Result<Vec<ShownParticipant<'a>>, AllocError> {
-    let facts = conference.facts.as_slice();
     let mut users = Vec::new(alloc);
-    for fact in facts {
-        if let Fact::User(person) = fact {
-            users.push(ShownParticipant {
-                id: person.id,
-                name: text_of(&person.name),
-                presence: "gone",
-                guest: false,
-                out: false,
-            })?;
-        }
+    for person in picture.users.as_slice() {
+        users.push(ShownParticipant {
+            id: person.id,
+            name: text_of(&person.name),
+            presence: presence_of(person),
+            guest: false,
+            out: person.is_removed,
+        })?;
     }
     // Once for all users: a conference may have hundreds, and a word for each.
-    for fact in facts {
-        match fact {
-            Fact::Member(member) => show_presence(&mut users, member),
-            Fact::Word(word) => show_admission(&mut users, word.key.as_str()),
-            _ => {}
+    for word in picture.words.as_slice() {
+        if let Some(guest) = user_behind("guest", word.key.as_str()) {
+            show_guest(&mut users, guest);
         }
     }
     Ok(users)
 }
 
-/// Shows that a user has a connection: one who has one that isn't lost is here.
-fn show_presence(users: &mut Vec<ShownParticipant<'_>>, member: &Member) {
-    if let Some(user) = with_id(users, member.user) {
-        if !member.is_away {
-            user.presence = "here";
-        } else if user.presence == "gone" {
-            user.presence = "away";
-        }
+/// How a user is told to be in the conference: one who has a connection that isn't lost is here.
+fn presence_of(person: &Person) -> &'static str {
+    let members = person.members.as_slice();
+    if members.is_empty() {
+        "gone"
+    } else if members.iter().any(|member| !member.is_away) {
+        "here"
+    } else {
+        "away"
     }
 }
 
-/// Shows what a word's key says of a user.
-fn show_admission(users: &mut Vec<ShownParticipant<'_>>, key: &str) {
-    if let Some(user) = named(users, "guest", key) {
+fn show_guest(users: &mut Vec<ShownParticipant<'_>>, guest: u16) {
+    if let Some(user) = users.iter_mut().find(|user| user.id == guest) {
         user.guest = true;
-    }
-    if let Some(user) = named(users, "out", key) {
-        user.out = true;
-    }
-}
-
-/// The user whom a key names behind a name and a dot.
-fn named<'b, 'a>(
-    users: &'b mut Vec<ShownParticipant<'a>>,
-    name: &str,
-    key: &str,
-) -> Option<&'b mut ShownParticipant<'a>> {
-    with_id(users, user_behind(name, key)?)
-}
-
-fn with_id<'b, 'a>(
-    users: &'b mut Vec<ShownParticipant<'a>>,
-    id: u16,
-) -> Option<&'b mut ShownParticipant<'a>> {
-    users.iter_mut().find(|user| user.id == id)
-}
-
-fn members_of(alloc: Global, conference: &Conference) -> Result<Vec<ShownMember>, AllocError> {
-    let mut members = Vec::new(alloc);
-    for fact in conference.facts.as_slice() {
-        if let Fact::Member(member) = fact {
-            members.push(ShownMember {
-                n: member.n,
-                user: member.user,
-                away: member.is_away,
-            })?;
-        }
-    }
-    Ok(members)
-}
-
-fn requests_of(alloc: Global, conference: &Conference) -> Result<Vec<ShownRequest>, AllocError> {
-    let mut requests = Vec::new(alloc);
-    for fact in conference.facts.as_slice() {
-        if let Fact::Request(requested) = fact {
-            requests.push(ShownRequest {
-                request: requested.request,
-                floor: requested.floor,
-                user: requested.user,
-                by: requested.requester,
-                status: status_name(requested.status),
-                position: requested.position,
-            })?;
-        }
-    }
-    Ok(requests)
-}
-
-fn reasons_of<'a>(
-    alloc: Global,
-    conference: &'a Conference,
-) -> Result<Vec<ShownReason<'a>>, AllocError> {
-    let mut reasons = Vec::new(alloc);
-    for fact in conference.facts.as_slice() {
-        if let Fact::Reason(reason) = fact {
-            reasons.push(ShownReason {
-                request: reason.request,
-                text: utf8_of(reason.text.as_slice()),
-            })?;
-        }
-    }
-    Ok(reasons)
-}
-
-/// The name of a status (RFC 8855, section 5.2.5).
-fn status_name(status: RequestStatus) -> &'static str {
-    match status {
-        RequestStatus::Pending => "Pending",
-        RequestStatus::Accepted => "Accepted",
-        RequestStatus::Granted => "Granted",
-        RequestStatus::Denied => "Denied",
-        RequestStatus::Cancelled => "Cancelled",
-        RequestStatus::Released => "Released",
-        RequestStatus::Revoked => "Revoked",
-    }
-}
-
-/// What the conference, or a floor of it, is called: by its words, and else by the file.
-fn title_of<'a>(
-    alloc: Global,
-    conference: &'a Conference,
-    floor: Option<u16>,
-    titles: &'a Titles,
-) -> Result<&'a str, AllocError> {
-    let key = match floor {
-        None => String::from_str(alloc, "title")?,
-        Some(floor) => format!(in alloc; "title.{floor}")?,
-    };
-    match value_of(conference, key.as_str()) {
-        Some(title) => Ok(title),
-        None => Ok(titles.find(conference.number, floor)),
     }
 }
 
 /// What a word of a floor says; empty where there is none.
 fn word_of<'a>(
     alloc: Global,
-    conference: &'a Conference,
+    picture: &'a Picture,
     name: &str,
     floor: u16,
 ) -> Result<&'a str, AllocError> {
     let key = format!(in alloc; "{name}.{floor}")?;
-    Ok(value_of(conference, key.as_str()).unwrap_or(""))
+    Ok(value_of(picture, key.as_str()))
 }
 
-/// What the word with this key says, if there is one.
-fn value_of<'a>(conference: &'a Conference, key: &str) -> Option<&'a str> {
-    for fact in conference.facts.as_slice() {
-        match fact {
-            Fact::Word(word) if word.key.as_str() == key => {
-                return Some(utf8_of(word.value.as_slice()));
-            }
-            _ => {}
-        }
+/// What the word with this key says; empty where there is none.
+fn value_of<'a>(picture: &'a Picture, key: &str) -> &'a str {
+    match picture
+        .words
+        .as_slice()
+        .iter()
+        .find(|word| word.key.as_str() == key)
+    {
+        Some(word) => word.text.as_str(),
+        None => "",
     }
-    None
 }
 
 /// The seconds that a word writes; none where it writes no number, or 0.
@@ -498,14 +300,9 @@ fn read_seconds(text: &str) -> Option<u16> {
 }
 
 /// A name; empty where there is none.
-fn text_of(name: &Option<Octets>) -> &str {
+fn text_of(name: &Option<Text>) -> &str {
     match name {
-        Some(name) => utf8_of(name.as_slice()),
+        Some(name) => name.as_str(),
         None => "",
     }
-}
-
-/// A text; empty where it is no UTF-8.
-fn utf8_of(bytes: &[u8]) -> &str {
-    std::str::from_utf8(bytes).unwrap_or("")
 }

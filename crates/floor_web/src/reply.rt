@@ -4,6 +4,7 @@
 ghost use Rattle.std.specs.Prelude.{◌≡◌, ◌++◌, IfOk, OnOk, string_bytes};
 ghost use Rattle.floor_web.specs.Replies as spec;
 
+use crate::asked::Protocol;
 use crate::pages::Kind;
 use crate::refusal::Refusal;
 use std::alloc::{AllocError, Global};
@@ -34,15 +35,21 @@ pub fn refuse(alloc: Global, refusal: Refusal, is_head: bool) -> Result<Vec<u8>,
     )
 }
 
-/// The answer that makes the connection a WebSocket of the subprotocol `bfcp` (RFC 8857, section
-/// 4.1), under the key of its handshake.
-pub fn welcome(alloc: Global, accept: &[u8; 28]) -> Result<Vec<u8>, AllocError>
-    ensures value { IfOk result (λ bytes. bytes.items ≡ spec.welcomed accept.now) }
+/// The answer that makes the connection a WebSocket of this subprotocol (RFC 6455, section 4.2.2), under the key of
+/// its handshake.
+pub fn welcome(
+    alloc: Global,
+    protocol: Protocol,
+    accept: &[u8; 28],
+) -> Result<Vec<u8>, AllocError>
+    ensures value { IfOk result (λ bytes. bytes.items ≡ spec.welcomed protocol accept.now) }
 {
     let mut bytes = Vec::new(alloc);
     bytes.extend_from_slice(
-        b"HTTP/1.1 101 Switching Protocols\r\nUpgrade: websocket\r\nConnection: Upgrade\r\nSec-WebSocket-Protocol: bfcp\r\nSec-WebSocket-Accept: ",
+        b"HTTP/1.1 101 Switching Protocols\r\nUpgrade: websocket\r\nConnection: Upgrade\r\nSec-WebSocket-Protocol: ",
     )?;
+    bytes.extend_from_slice(protocol.name().as_bytes())?;
+    bytes.extend_from_slice(b"\r\nSec-WebSocket-Accept: ")?;
     bytes.extend_from_slice(accept)?;
     bytes.extend_from_slice(b"\r\n\r\n")?;
     Ok(bytes)

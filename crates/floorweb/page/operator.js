@@ -1,18 +1,22 @@
-// The operator's page: all conferences as the control socket tells of them, and what the operator has done.
+// The operator's page: all conferences as the server tells of them, and what the operator has done.
 
 import { countEvents, showChart } from "./operatorchart.js";
 import { choose, chosen, hide, showDetail } from "./operatordetail.js";
 import { floorNameOf, nameOf, reasonOf, titleOf } from "./operatornames.js";
 import { may } from "./operatororder.js";
 import { $, prepareTexts, setState, stop, tell, warn } from "./operatorsay.js";
+import { isAgain, pictured, told as behind } from "./operatorstate.js";
 import { markRow, prepareTable, showRow } from "./operatortable.js";
 import { texts, told } from "./operatortexts.js";
+import { Connection, NOBODY, Refused } from "./rpc.js";
 
 const FIRST_WAIT = 500;
 const LONGEST_WAIT = 15_000;
 
 /** The conferences as they were told of last, by number. */
 const known = new Map();
+/** Those that were told of over the connection that there is. */
+const seen = new Set();
 
 let wait = FIRST_WAIT;
 /** What isn't told again where a page comes back. */
@@ -45,57 +49,63 @@ function pick(number, button) {
 
 // What is told
 
-/** Reads what is told, line by line, and comes again where that ends. */
+/** Follows the server, and comes again where that ends. */
 async function follow(token) {
   setState("connecting");
-  try {
-    const answer = await fetch("/operator/live", { headers: { Authorization: `Bearer ${token}` } });
-    if (answer.status === 404) return stop("noOperator");
-    if (answer.ok) await read(answer.body.getReader());
-  } catch {
-    // The gateway can't be reached.
-  }
+  const connection = new Connection(token, (event) => hear(connection, event));
+  begin(connection).catch(() => connection.close());
+  const code = await connection.ended;
+  if (code === NOBODY) return stop("noOperator");
+  if (!isFirst) warn(told.lost);
   setState("waiting");
   setTimeout(() => follow(token), wait * (0.75 + Math.random() / 2));
   wait = Math.min(2 * wait, LONGEST_WAIT);
 }
 
-async function read(reader) {
-  const decoder = new TextDecoder();
-  let text = "";
-  const heard = new Set();
-  for (;;) {
-    const { done, value } = await reader.read();
-    if (done) return;
-    text += decoder.decode(value, { stream: true });
-    const lines = text.split("\n");
-    text = lines.pop();
-    for (const line of lines) if (line) hear(JSON.parse(line), heard);
-    showCounts();
+/** What is watched before it is listed isn't missed, and what isn't listed any more isn't there. */
+async function begin(connection) {
+  const { methods } = await connection.call("help");
+  Object.assign(may, { order: methods.includes("conference.close"), call: connection.call });
+  seen.clear();
+  await connection.call("watch", { all: true });
+  let part = { more: true, conferences: [] };
+  while (part.more) {
+    const last = part.conferences.at(-1)?.conference;
+    part = await connection.call("conference.list", last === undefined ? {} : { after: last });
+    await Promise.all(part.conferences.map(({ conference }) => look(connection, conference)));
   }
+  for (const number of known.keys()) if (!seen.has(number)) take({ conference: number, phase: "gone" });
+  wait = FIRST_WAIT;
+  isFirst = false;
+  setState("open");
+  showCounts();
 }
 
-function hear(line, heard) {
-  if ("role" in line) {
-    may.order = line.role !== "observe";
-    return;
+/** Asks what a conference is. */
+async function look(connection, conference) {
+  try {
+    take(pictured(conference, await connection.call("conference.get", { conference })));
+  } catch (fault) {
+    if (!(fault instanceof Refused)) throw fault;
+    take({ conference, phase: "gone" });
   }
-  if ("followed" in line) {
-    wait = FIRST_WAIT;
-    setState(line.followed ? "open" : "stale");
-    if (!line.followed) return warn(told.lost);
-    // What wasn't told again isn't there any more.
-    for (const number of known.keys()) if (!heard.has(number)) take({ conference: number, phase: "gone" });
-    isFirst = false;
-    return;
-  }
-  heard.add(line.conference);
-  take(line);
+  showCounts();
+}
+
+function hear(connection, event) {
+  const { conference, what } = event;
+  // Where the connection is lost meanwhile all is asked for again.
+  if (isAgain(event)) return look(connection, conference).catch(() => {});
+  if (!known.has(conference)) return;
+  take(what.event === "forgotten" ? { conference, phase: "gone" } : behind(known.get(conference), event));
+  showCounts();
 }
 
 /** Takes what a conference is now. */
 function take(now) {
   const before = known.get(now.conference);
+  if (before === now) return;
+  seen.add(now.conference);
   showRow(now.conference);
   if (now.phase === "gone") {
     known.delete(now.conference);
@@ -120,7 +130,7 @@ function tellChanges(before, now) {
   for (const one of now.requests) {
     if (same(before.requests, one)?.status === one.status) continue;
     const text = one.status === "Granted" ? told.has : told.asks;
-    tell(text(nameOf(now, one.user), floorNameOf(now, one.floor), reasonOf(now, one.request)));
+    tell(text(nameOf(now, one.user), floorNameOf(now, one.floor), reasonOf(one.reason)));
   }
   for (const one of before.requests) if (!same(now.requests, one)) tell(told.gone(nameOf(now, one.user), floorNameOf(now, one.floor)));
 }

@@ -46,7 +46,7 @@ export function showDetail(now) {
   close.closest(".menu").hidden = !isOpen || !may.order;
   close.previousElementSibling.setAttribute("aria-label", texts.ordersFor(titleOf(now)));
   close.setAttribute("aria-label", texts.closeOf(titleOf(now)));
-  close.onclick = () => order(texts.closeOf(titleOf(now)), `close ${now.conference}`, part("h2"));
+  close.onclick = () => order(texts.closeOf(titleOf(now)), "conference.close", { conference: now.conference }, part("h2"));
   part(".people").hidden = !isOpen;
   part(".people .count").textContent = now.members.length || "";
   part(".people .none").hidden = now.members.length > 0;
@@ -80,8 +80,9 @@ function list(parent, items, keyOf, show, template = "entry") {
 
 function showMember(node, now, { user, away, isOut }) {
   const name = nameOf(now, user);
-  if (isOut) return showEntry(node, name, texts.out, "", texts.letIn, texts.letInOf(name), `in ${now.conference} ${user}`);
-  showEntry(node, name, away ? texts.away : "", "", texts.leave, texts.leaveOf(name), `out ${now.conference} ${user}`);
+  const whom = { conference: now.conference, user };
+  if (isOut) return showEntry(node, name, texts.out, "", texts.letIn, texts.letInOf(name), "user.admit", whom);
+  showEntry(node, name, away ? texts.away : "", "", texts.leave, texts.leaveOf(name), "member.remove", whom);
 }
 
 function showFloor(node, now, floor) {
@@ -94,17 +95,17 @@ function showFloor(node, now, floor) {
   list(node.querySelector("ol"), requests, (one) => `r${one.request}`, (item, one) => showRequest(item, now, floor, one));
 }
 
-function showRequest(node, now, floor, { request, user, by, status, position }) {
+function showRequest(node, now, floor, { request, user, by, status, position, reason }) {
   const name = nameOf(now, user);
   const who = by === null ? name : texts.askedBy(name, nameOf(now, by));
   const badge = status === "Accepted" && position ? texts.waits(position) : texts.status[status];
   node.classList.toggle("granted", status === "Granted");
   node.classList.toggle("pending", status === "Pending");
   const what = texts.revokeOf[status](name, floorNameOf(now, floor.id));
-  showEntry(node, who, badge, reasonOf(now, request), texts.revoke[status], what, `revoke ${now.conference} ${request}`);
+  showEntry(node, who, badge, reasonOf(reason), texts.revoke[status], what, "request.revoke", { conference: now.conference, request });
 }
 
-function showEntry(node, who, badge, reason, label, what, line) {
+function showEntry(node, who, badge, reason, label, what, method, params) {
   const part = (selector) => node.querySelector(selector);
   part(".who").textContent = who;
   part(".badge").textContent = badge;
@@ -115,5 +116,5 @@ function showEntry(node, who, badge, reason, label, what, line) {
   const button = part("button");
   button.textContent = label;
   button.setAttribute("aria-label", what);
-  button.onclick = () => order(what, line, part("summary"));
+  button.onclick = () => order(what, method, params, part("summary"));
 }

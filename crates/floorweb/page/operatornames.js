@@ -8,4 +8,4 @@ const isolated = (text) => text && isolate(text);
 export const titleOf = (now) => texts.conference(now.conference, isolated(now.title));
 export const nameOf = (now, id) => (id === null || id === undefined ? texts.somebody : texts.user(id, isolated(now.users.find((user) => user.id === id)?.name)));
 export const floorNameOf = (now, id) => texts.floor(id, isolated(now.floors.find((floor) => floor.id === id)?.title));
-export const reasonOf = (now, request) => isolated(now.reasons.find((one) => one.request === request)?.text ?? "");
+export const reasonOf = (reason) => isolated(reason);

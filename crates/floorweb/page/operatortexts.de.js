@@ -59,7 +59,6 @@ export const texts = {
 export const states = {
   connecting: "Verbindet",
   open: "Verbunden",
-  stale: "Der Server ist weg",
   waiting: "Nicht verbunden",
   ended: "Kein Link",
 };

@@ -59,7 +59,6 @@ export const texts = {
 export const states = {
   connecting: "Connecting",
   open: "Connected",
-  stale: "The server is away",
   waiting: "Not connected",
   ended: "No link",
 };

@@ -1,4 +1,4 @@
-// What both pages need to have something done: the question before it, and the request to floorweb.
+// What pages need to have something done: the question before it, and a participant's request to floorweb.
 
 let questions = 0;
 
@@ -28,7 +28,7 @@ export async function send(path, token, line) {
   try {
     const answer = await fetch(path, { method: "POST", headers: { Authorization: `Bearer ${token}`, Order: line } });
     const text = await answer.text();
-    return { isDone: answer.ok && text.startsWith("ok "), fault: text.match(/^error (\w+)/)?.[1], status: answer.status };
+    return { isDone: answer.ok && text.startsWith("ok"), fault: text.match(/^error (\w+)/)?.[1], status: answer.status };
   } catch {
     return { isDone: false };
   }

@@ -29,18 +29,24 @@ const DESCRIPTORS: &str = "/proc/self/fd";
 const CONFIGURATION: &str = "meeting.toml";
 
 /// The files that it serves, and a folder that has no page.
-const FILES: [(&str, &str); 7] = [
+const FILES: [(&str, &str); 8] = [
     ("page/index.html", "<p>floors"),
     ("page/app.min.js", "// two dots"),
     ("page/NOTES", "of no kind"),
     ("page/operator.html", "<p>all"),
-    ("operator.token", "the-token-of-the-operator\n"),
-    ("observer.token", "the-token-of-an-observer\n"),
+    (
+        "roles",
+        "operate the-token-of-the-operator\n\nobserve the-token-of-an-observer\nbridge the-token-of-the-bridge--\n",
+    ),
+    ("weak.roles", "bridge the-token-of-the-bridge--\nobserve short\n"),
+    ("no.roles", "administer the-token-of-the-operator\n"),
     ("other/style.css", "p { }"),
 ];
 
-/// The server's control socket.
+/// The server's control socket, and the one that tells no word.
 const CONTROL: &str = "control";
+
+const OBSERVE: &str = "observe";
 
 /// A gateway, the browsers before it and the server behind it.
 #[derive(Drop)]
@@ -54,6 +60,8 @@ pub struct World<R> {
     nobody: u16,
     /// The server's control socket, where it has one.
     control: Option<UnixListener>,
+    /// The one that tells no word.
+    observe: Option<UnixListener>,
     /// The gateway's own.
     port: u16,
     gateway: Option<Gateway>,
@@ -116,6 +124,7 @@ where
             ports,
             nobody,
             control: None,
+            observe: None,
             port: free_port(&rt)?,
             gateway: None,
             streams: Vec::new(alloc),
@@ -170,7 +179,10 @@ where
     ///   whether each was taken.
     /// - `NAME accept` is the next connection to the server, at either port.
     /// - `control` opens the server's control socket, at the path control, and `shut` shuts it; `NAME follow` is the
-    ///   next that connects to it, and `NAME line` prints the next line of a stream.
+    ///   next that connects to it, and `NAME line` prints the next line of a stream. `observe` and `NAME observed` are
+    ///   the same of the socket that tells no word, at the path observe.
+    /// - `NAME call TOKEN` asks for a WebSocket of calls, and further fields behind the token; `NAME say TEXT` sends it a
+    ///   text, and `NAME told` prints the next frame with its text.
     /// - `behind COUNT` has so many bytes stand behind what is sent next, in one piece with it.
     /// - `patience SECONDS` is how long each is waited for, `sleep MILLISECONDS` waits, `clock` starts a clock,
     ///   and `since LEAST MOST` prints whether it shows so many seconds. `mark` counts the descriptors that are
@@ -194,7 +206,14 @@ where
                 Ok(())
             }
             "stop" => self.stop(),
-            "control" => self.open_control(),
+            "control" => {
+                self.control = Some(self.opened(CONTROL)?);
+                Ok(())
+            }
+            "observe" => {
+                self.observe = Some(self.opened(OBSERVE)?);
+                Ok(())
+            }
             "shut" => {
                 self.control = None;
                 Ok(())
@@ -338,7 +357,12 @@ where
                 self.open(name, user, "", frame.as_slice())
             }
             "accept" => self.accept(name),
-            "follow" => self.follow(name),
+            "follow" | "observed" => self.follow(name, verb == "observed"),
+            "call" => {
+                let (token, fields) = rest.split_once(' ').unwrap_or((rest, ""));
+                let protocol = format!(in self.alloc; "jsonrpc, token.{token}")?;
+                self.upgrade(name, "/rpc", protocol.as_str(), fields, &[])
+            }
             _ if self.place_of(name).is_err() => {
                 write!(self.printed, "{name} isn't there\n")?;
                 Ok(())
@@ -361,6 +385,11 @@ where
                 let text = text.as_str().replace(self.alloc, "|", "\n")?;
                 self.send(name, text.as_bytes())
             }
+            "say" => {
+                let bytes = text_frame(self.alloc, rest)?;
+                self.send(name, bytes.as_slice())
+            }
+            "told" => self.hear_text(name),
             "send" | "fill" | "frame" => {
                 let bytes = self.bytes_of(verb, rest)?;
                 self.send(name, bytes.as_slice())
@@ -461,8 +490,21 @@ where
 
     /// Asks for a WebSocket: RFC 6455, section 1.3, has the key.
     fn open(&mut self, name: &str, user: &str, fields: &str, behind: &[u8]) -> Result<(), Fault> {
-        let request = format!(in self.alloc;
-            "GET /bfcp HTTP/1.1|Host: h|Connection: Upgrade|Upgrade: websocket|Sec-WebSocket-Version: 13|Sec-WebSocket-Key: dGhlIHNhbXBsZSBub25jZQ==|Sec-WebSocket-Protocol: bfcp, token.the-token-of-user-{user}--|{fields}|"
+        let protocol = format!(in self.alloc; "bfcp, token.the-token-of-user-{user}--")?;
+        self.upgrade(name, "/bfcp", protocol.as_str(), fields, behind)
+    }
+
+    fn upgrade(
+        &mut self,
+        name: &str,
+        path: &str,
+        protocol: &str,
+        fields: &str,
+        behind: &[u8],
+    ) -> Result<(), Fault> {
+        let alloc = self.alloc;
+        let request = format!(in alloc;
+            "GET {path} HTTP/1.1|Host: h|Connection: Upgrade|Upgrade: websocket|Sec-WebSocket-Version: 13|Sec-WebSocket-Key: dGhlIHNhbXBsZSBub25jZQ==|Sec-WebSocket-Protocol: {protocol}|{fields}|"
         )?;
         let request = request.as_str().replace(self.alloc, "|", "\r\n")?;
         let mut bytes = request.into_bytes();
@@ -481,40 +523,29 @@ where
         Ok(())
     }
 
-    /// Opens the server's control socket.
-    fn open_control(&mut self) -> Result<(), Fault> {
+    /// Opens one of the server's sockets.
+    fn opened(&self, path: &str) -> Result<UnixListener, Fault> {
         // It may be there since the case before.
-        let _outcome = fs::remove_file(&self.rt, CONTROL);
-        let control = UnixListener::bind(&self.rt, CONTROL)?;
-        control.set_nonblocking(true)?;
-        self.control = Some(control);
-        Ok(())
+        let _outcome = fs::remove_file(&self.rt, path);
+        let listener = UnixListener::bind(&self.rt, path)?;
+        listener.set_nonblocking(true)?;
+        Ok(listener)
     }
 
-    fn follow(&mut self, name: &str) -> Result<(), Fault> {
+    fn follow(&mut self, name: &str, is_observer: bool) -> Result<(), Fault> {
         for _ in 0..self.patience.saturating_mul(100) {
-            if let Some(socket) = self.followed()? {
+            let found = if is_observer {
+                followed(&self.observe)?
+            } else {
+                followed(&self.control)?
+            };
+            if let Some(socket) = found {
                 return self.add(name, socket);
             }
             thread::sleep(&self.rt, Duration::from_millis(10));
         }
         write!(self.printed, "{name} never comes\n")?;
         Ok(())
-    }
-
-    /// The next connection to the control socket, if there is one.
-    fn followed(&self) -> Result<Option<TcpStream>, Fault> {
-        let Some(control) = &self.control else {
-            return Ok(None);
-        };
-        match control.accept() {
-            Ok((socket, _)) => {
-                socket.set_nonblocking(false)?;
-                Ok(Some(TcpStream::from(OwnedFd::from(socket))))
-            }
-            Err(error) if error.kind() == ErrorKind::WouldBlock => Ok(None),
-            Err(error) => Err(Fault::from(error)),
-        }
     }
 
     fn line(&mut self, name: &str) -> Result<(), Fault> {
@@ -608,6 +639,21 @@ where
         Ok(())
     }
 
+    fn hear_text(&mut self, name: &str) -> Result<(), Fault> {
+        let alloc = self.alloc;
+        let (heard, first, payload) = self.stream(name)?.frame(alloc)?;
+        if heard != Heard::Enough {
+            write!(self.printed, "{name} {}\n", heard.name())?;
+            return Ok(());
+        }
+        let front = hex::encode(alloc, &[first])?;
+        match std::str::from_utf8(payload.as_slice()) {
+            Ok(text) => write!(self.printed, "{name} {} {text}\n", front.as_str())?,
+            Err(_) => write!(self.printed, "{name} {} no UTF-8\n", front.as_str())?,
+        }
+        Ok(())
+    }
+
     fn hear(&mut self, name: &str, rest: &str) -> Result<(), Fault> {
         let alloc = self.alloc;
         let count = number_in(rest)? as usize;
@@ -620,6 +666,37 @@ where
         write!(self.printed, "{name} {}\n", bytes.as_str())?;
         Ok(())
     }
+}
+
+/// The next connection to one of the server's sockets, if there is one.
+fn followed(listener: &Option<UnixListener>) -> Result<Option<TcpStream>, Fault> {
+    let Some(listener) = listener else {
+        return Ok(None);
+    };
+    match listener.accept() {
+        Ok((socket, _)) => {
+            socket.set_nonblocking(false)?;
+            Ok(Some(TcpStream::from(OwnedFd::from(socket))))
+        }
+        Err(error) if error.kind() == ErrorKind::WouldBlock => Ok(None),
+        Err(error) => Err(Fault::from(error)),
+    }
+}
+
+/// A frame of a text, by the mask 0 (RFC 6455, section 5.2).
+fn text_frame(alloc: Global, text: &str) -> Result<Vec<u8>, Fault> {
+    let mut bytes = Vec::new(alloc);
+    bytes.push(0x81)?;
+    let len = text.len();
+    if len < 126 {
+        bytes.push(0x80 | len as u8)?;
+    } else {
+        bytes.push(0x80 | 126)?;
+        bytes.extend_from_slice(&[(len / 256) as u8, (len % 256) as u8])?;
+    }
+    bytes.extend_from_slice(&[0, 0, 0, 0])?;
+    bytes.extend_from_slice(text.as_bytes())?;
+    Ok(bytes)
 }
 
 /// Bytes as they are printed: how many, where they are many.

@@ -1,10 +1,10 @@
 //! Who is let into a meeting, and what a chair orders, by what the control socket tells of a conference.
 
-use floor_follow::{Conference, FollowFault, Follower, read_line};
+use floor_follow::{FollowFault, Follower, Picture, Scratch, add_request, read_line};
+use floor_rpc::Call;
 use floor_web::{
-    Admission, Joining, Order, Titles, admission_of, bearer, guest_line, guest_of, is_invitation,
-    join, let_in_line, line_of, meeting_of, put_out, read_joining, read_name, read_order,
-    refusal_of, show_out_line, token_line,
+    Admission, Joining, Order, admission_of, bearer, call_of, guest_call, guest_of, is_invitation,
+    join, meeting_of, read_joining, read_name, read_order, refusal_of, token_call,
 };
 use floor_words::read_u16;
 use std::alloc::{AllocError, Global};
@@ -13,30 +13,43 @@ use std::fmt::Write;
 /// What is told of a conference by the control socket's lines, and behind a line `---` what is asked of it:
 ///
 /// - `admission USER`, `meeting USER`, `guest`: whether a user is let in, and what pages are told.
-/// - `order USER TEXT`: the line that the order comes to, or why it is refused.
-/// - `join TEXT`: the first User ID and the two lines, or why nobody joins; `token TEXT` whose it is.
-/// - `out`: the connections that are to be ended. `operator USER`: the lines for the operator's orders.
+/// - `order USER TEXT`: the call that the order comes to, or why it is refused.
+/// - `join TEXT`: the first User ID and the two calls, or why nobody joins; `token TEXT` whose it is.
+///
+/// Of the lines each is an answer, or a notification; what is asked is taken for asked in between.
 pub fn admitted(alloc: Global, text: &str) -> Result<String, AllocError> {
     let (lines, questions) = text.split_once("---\n").unwrap_or((text, ""));
     let mut told = String::new(alloc);
     let mut follower = Follower::new(alloc);
-    if follow(alloc, &mut follower, lines).is_err() {
-        return String::from_str(alloc, "lines that can't be followed\n");
+    match follow(alloc, &mut follower, lines) {
+        Ok(()) => {}
+        Err(fault) => {
+            write!(told, "{}\n", fault.name())?;
+            return Ok(told);
+        }
     }
-    let Some(conference) = follower.conference(1) else {
+    let Some(picture) = picture_in(&follower) else {
         return String::from_str(alloc, "no conference 1\n");
     };
     for question in questions.lines() {
-        push_answer(alloc, &mut told, conference, question)?;
+        push_answer(alloc, &mut told, picture, question)?;
         told.push('\n')?;
     }
     Ok(told)
 }
 
+fn picture_in(follower: &Follower) -> Option<&Picture> {
+    match follower.conference(1) {
+        Some(conference) => conference.picture.as_ref(),
+        None => None,
+    }
+}
+
 fn follow(alloc: Global, follower: &mut Follower, lines: &str) -> Result<(), FollowFault> {
+    let mut scratch = Scratch::new(alloc);
     let _question = follower.ask();
     for line in lines.lines() {
-        follower.hear(read_line(alloc, line)?)?;
+        follower.hear(read_line(alloc, &mut scratch, line)?)?;
         let _question = follower.ask();
     }
     Ok(())
@@ -45,45 +58,30 @@ fn follow(alloc: Global, follower: &mut Follower, lines: &str) -> Result<(), Fol
 fn push_answer(
     alloc: Global,
     told: &mut String,
-    conference: &Conference,
+    picture: &Picture,
     question: &str,
 ) -> Result<(), AllocError> {
     let (word, rest) = question.split_once(' ').unwrap_or((question, ""));
     match word {
-        "admission" => told.push_str(name_of(admission_of(conference, user_in(rest)))),
-        "meeting" => {
-            match meeting_of(alloc, conference, user_in(rest), &Titles::new(alloc))? {
-                Some(text) => told.push_str(text.as_str()),
-                None => told.push_str("nobody"),
-            }
-        }
+        "admission" => told.push_str(name_of(admission_of(picture, user_in(rest)))),
+        "meeting" => match meeting_of(alloc, 1, picture, user_in(rest))? {
+            Some(text) => told.push_str(text.as_str()),
+            None => told.push_str("nobody"),
+        },
         "guest" => {
-            let text = guest_of(alloc, conference, &Titles::new(alloc))?;
+            let text = guest_of(alloc, 1, picture)?;
             told.push_str(text.as_str())
         }
         "order" => {
             let (user, text) = rest.split_once(' ').unwrap_or((rest, ""));
-            push_order(alloc, told, conference, user_in(user), text)
+            push_order(alloc, told, picture, user_in(user), text)
         }
-        "operator" => {
-            let user = user_in(rest);
-            push_line(told, show_out_line(alloc, 1, user)?.as_str())?;
-            push_line(told, let_in_line(alloc, 1, user)?.as_str())
-        }
-        "join" => push_joining(alloc, told, conference, question),
-        "token" => match bearer(conference, rest.as_bytes()) {
+        "join" => push_joining(alloc, told, picture, question),
+        "token" => match bearer(picture, rest.as_bytes()) {
             Some(user) => write!(told, "user {user}"),
-            None if is_invitation(conference, rest.as_bytes()) => told.push_str("guests"),
+            None if is_invitation(picture, rest.as_bytes()) => told.push_str("guests"),
             None => told.push_str("nobody"),
         },
-        "out" => {
-            for fact in conference.facts.as_slice() {
-                if let Some(n) = put_out(conference, fact) {
-                    write!(told, "{n}|")?;
-                }
-            }
-            Ok(())
-        }
         _ => told.push_str("no question"),
     }
 }
@@ -100,19 +98,20 @@ fn name_of(admission: Admission) -> &'static str {
     }
 }
 
-/// Appends a line, and a bar where it ends.
-fn push_line(told: &mut String, line: &str) -> Result<(), AllocError> {
-    for part in line.split('\n') {
-        told.push_str(part)?;
-        told.push('|')?;
-    }
-    Ok(())
+/// Appends the line of a call, without what each has, and a bar.
+fn push_call(alloc: Global, told: &mut String, call: Call) -> Result<(), AllocError> {
+    let mut line = Vec::new(alloc);
+    add_request(alloc, &mut line, "", call)?;
+    let text = std::str::from_utf8(line.as_slice()).unwrap_or("no UTF-8");
+    let (_front, call) = text.split_once("\"method\":").unwrap_or(("", text));
+    told.push_str(call.trim())?;
+    told.push('|')
 }
 
 fn push_order(
     alloc: Global,
     told: &mut String,
-    conference: &Conference,
+    picture: &Picture,
     user: u16,
     text: &str,
 ) -> Result<(), AllocError> {
@@ -120,30 +119,30 @@ fn push_order(
         Some(order) => order,
         None => return told.push_str("no order"),
     };
-    match refusal_of(conference, user, order) {
+    match refusal_of(picture, user, order) {
         Some(fault) => told.push_str(fault.name()),
-        None => push_line(told, line_of(alloc, conference.number, order)?.as_str()),
+        None => push_call(alloc, told, call_of(alloc, 1, order)?),
     }
 }
 
 fn push_joining(
     alloc: Global,
     told: &mut String,
-    conference: &Conference,
+    picture: &Picture,
     text: &str,
 ) -> Result<(), AllocError> {
     let joining: Joining = match read_joining(alloc, text)? {
         Some(joining) => joining,
         None => return told.push_str("no order"),
     };
-    let user = match join(conference, joining.token.as_bytes()) {
+    let user = match join(picture, joining.token.as_bytes()) {
         Ok(user) => user,
         Err(fault) => return told.push_str(fault.name()),
     };
     match read_name(alloc, joining.name) {
         Ok(name) => {
-            push_line(told, guest_line(alloc, 1, user, name.as_str())?.as_str())?;
-            push_line(told, token_line(alloc, 1, user, joining.token)?.as_str())
+            push_call(alloc, told, guest_call(alloc, 1, user, name.as_str())?)?;
+            push_call(alloc, told, token_call(alloc, 1, user, joining.token)?)
         }
         Err(fault) => told.push_str(fault.name()),
     }

@@ -1,6 +1,6 @@
 //! The answers to requests, with `\r` for each carriage return and a bar before each line.
 
-use floor_web::{File, Kind, Pages, Refusal, kind_of, refuse, serve, welcome};
+use floor_web::{File, Kind, Pages, Protocol, Refusal, kind_of, refuse, serve, welcome};
 use std::alloc::{AllocError, Global};
 
 /// What answers the key of the example (RFC 8857, section 4.1).
@@ -30,7 +30,8 @@ fn answer(alloc: Global, line: &str) -> Result<Vec<u8>, AllocError> {
     match line {
         "head" => serve(alloc, Kind::Css, b"a", true),
         "refused" => refuse(alloc, Refusal::MethodNotAllowed, false),
-        "welcome" => welcome(alloc, ACCEPT),
+        "calls" => welcome(alloc, Protocol::JsonRpc, ACCEPT),
+        "welcome" => welcome(alloc, Protocol::Bfcp, ACCEPT),
         name => page(alloc, name),
     }
 }

@@ -15,6 +15,7 @@ mod pages;
 mod participants;
 mod relays;
 mod requests;
+mod roles;
 
 use pages::Pages;
 use std::process::ExitCode;

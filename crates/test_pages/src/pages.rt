@@ -8,6 +8,7 @@ use crate::origins::allowed;
 use crate::participants::participants;
 use crate::relays::{of_browser, of_server};
 use crate::requests::asked;
+use crate::roles::roles;
 use floor_proxy::NamedBy;
 use std::alloc::{AllocError, Global};
 use test_cases::{Fault, Runner};
@@ -38,6 +39,7 @@ fn told(alloc: Global, subject: &str, text: &str) -> Result<String, AllocError> 
         "request" => asked(alloc, text),
         "admission" => admitted(alloc, text),
         "answers" => answers(alloc, text),
+        "roles" => roles(alloc, text),
         "origins" => allowed(alloc, text),
         "participants" => participants(alloc, text),
         "browser" => of_browser(alloc, text),

@@ -1,6 +1,6 @@
 //! Requests of browsers: what they ask for.
 
-use floor_web::{Asked, Giver, Origins, Reading, Source, read_request};
+use floor_web::{Asked, Origins, Reading, Source, read_request};
 use std::alloc::{AllocError, Global};
 use std::fmt::Write;
 
@@ -33,20 +33,16 @@ fn push_asked(told: &mut String, asked: &Asked) -> Result<(), AllocError> {
             token,
             is_head,
         } => push_name(told, name_of(*source), token, *is_head),
-        Asked::Order {
-            giver,
-            token,
-            order,
-        } => {
-            let word = match giver {
-                Giver::Operator => "operator's order",
-                Giver::User => "order",
-            };
-            push_name(told, word, order, false)?;
+        Asked::Order { token, order } => {
+            push_name(told, "order", order, false)?;
             write!(told, ", token {}", text_of(token))
         }
-        Asked::Bfcp { token, accept } => {
-            push_name(told, "bfcp", token, false)?;
+        Asked::Socket {
+            protocol,
+            token,
+            accept,
+        } => {
+            push_name(told, protocol.name(), token, false)?;
             write!(told, ", accept {}", text_of(accept.as_slice()))
         }
     }
@@ -56,7 +52,6 @@ fn name_of(source: Source) -> &'static str {
     match source {
         Source::Meeting => "meeting",
         Source::Live => "live",
-        Source::Operator => "operator",
     }
 }
 

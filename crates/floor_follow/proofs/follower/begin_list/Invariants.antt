@@ -1,6 +1,0 @@
-use Rattle.std.proofs.Common.{◌≡◌, ◌++◌, map, take, drop}
-use Rattle.floor_follow.specs.Following.{unlisted}
-use Rattle.floor_follow.proofs.follower.begin_list.Given as goal
-
-abbrev pub invariant-loop-conference : goal.invariant-loop-conference
-invariant-loop-conference l = l.conference-items ≡ map unlisted (take l.conference-index l.fn.conferences.items) ++ drop l.conference-index l.fn.conferences.items
