@@ -6,10 +6,12 @@ use Rattle.std.specs.Option.{option_map_or}
 use Rattle.std.proofs.lemmas.Bool.{eqb-true, or_right}
 use Rattle.std.proofs.lemmas.Bool.Decides.{nat_tests}
 use Rattle.std.proofs.lemmas.List.Folds.{list_any-append}
+use Rattle.floor_config.specs.declared.floors.Floor.{Floor}
 use Rattle.floor_machine.specs.declared.member.Member.{Member}
 use Rattle.floor_machine.specs.Change.{acknowledging, watching}
 use Rattle.floor_machine.specs.Conference.{is_numbered_from, live_numbers, member_with}
 use Rattle.floor_machine.specs.steps.Counting.{AreThose, AreWatching, counted_at, is_told, is_watching, noted_if}
+use Rattle.floor_machine.specs.steps.Telling.{is_one_of, is_to_notice}
 use Rattle.floor_machine.proofs.Cut.{live-watching-one, n-watching}
 use Rattle.floor_machine.proofs.Found.{same_number}
 use Rattle.floor_machine.proofs.Live.{any-live}
@@ -180,3 +182,25 @@ any-watching floor ms those numbered h = any-those is_watching (λ m. list_any (
         by : (b : Bool) → (length (f ∷ floors) == 0) ≡ b → not b ≡ true
         by true e = let none : length (f ∷ floors) ≡ 0 = eqb-true (length (f ∷ floors)) 0 e in absurd (omega (arith, none))
         by false e = refl
+
+-- a list of no length is empty
+empty-none : (ns : List ℕ) → (length ns == 0) ≡ true → ns ≡ []
+empty-none [] e = refl
+empty-none (n ∷ ns) e = absurd (omega (arith, eqb-true (length (n ∷ ns)) 0 e))
+
+-- where nobody watches, no floor is to be told of
+pub none-watched : (changed : List ℕ) (ms : List Member) (those : List ℕ) (floors : List Floor) → is_numbered_from 1 ms ≡ true → AreWatching ms those → (length those == 0) ≡ true →
+    filter (is_to_notice ms changed) floors ≡ []
+none-watched changed ms those floors numbered h none = all floors
+  where
+    nobody : (floor : ℕ) → list_any (λ m. m.is_live && list_any (λ watched. watched == floor) m.watched) ms ≡ false
+    nobody floor = sym (any-watching floor ms [] numbered (subst (AreWatching ms) (empty-none those none) h))
+
+    all : (fs : List Floor) → filter (is_to_notice ms changed) fs ≡ []
+    all [] = refl
+    all (f ∷ fs) = by (is_one_of changed f) (list_any (λ m. m.is_live && list_any (λ floor. floor == f.id) m.watched) ms) (nobody f.id) (all fs)
+      where
+        by : (c w : Bool) → w ≡ false → filter (is_to_notice ms changed) fs ≡ [] → cond (c && w) (f ∷ filter (is_to_notice ms changed) fs) (filter (is_to_notice ms changed) fs) ≡ []
+        by true true e rest = absurd (let clash : true ≡ false = e in cc)
+        by true false e rest = rest
+        by false w e rest = rest

@@ -10,7 +10,7 @@ ghost use Rattle.floor_machine.specs.steps.Serving.{IsAtRest, conference_of};
 use crate::conference::State;
 use crate::course::Course;
 use crate::decision::Change;
-use std::alloc::{AllocError, Global};
+use std::alloc::AllocError;
 
 pub(crate) mod chair_action;
 pub(crate) mod configuration;
@@ -24,11 +24,7 @@ pub(crate) mod reason;
 impl State {
     /// Does what is decided, before the requests are settled. What may leave a request shown otherwise
     /// than before gives the course of its event.
-    pub(crate) fn change(
-        &mut self,
-        alloc: Global,
-        change: Change,
-    ) -> Result<Option<Course>, AllocError>
+    pub(crate) fn change(&mut self, change: Change) -> Result<Option<Course>, AllocError>
         requires may { MayChange (conference_of self.old) change }
         requires rest { IsAtRest self.old }
         ensures taken { IfOk result (IsTaken self.old change self.new) }
@@ -36,15 +32,15 @@ impl State {
         match change {
             Change::Nothing => Ok(None),
             Change::Add(new) => {
-                let course = self.add_request(alloc, new)?;
+                let course = self.add_request(new)?;
                 Ok(Some(course))
             }
             Change::End(request, by, reason) => {
-                let course = self.end_ongoing(alloc, request, by, reason)?;
+                let course = self.end_ongoing(request, by, reason)?;
                 Ok(Some(course))
             }
             Change::Words(request, verdicts, reason) => {
-                let course = self.leave_words(alloc, request, verdicts.as_slice(), reason)?;
+                let course = self.leave_words(request, verdicts.as_slice(), reason)?;
                 Ok(Some(course))
             }
             Change::Watch(n, floors) => {
@@ -52,20 +48,20 @@ impl State {
                 Ok(None)
             }
             Change::Leave(n) => {
-                let course = self.leave(alloc, n)?;
+                let course = self.leave(n)?;
                 Ok(Some(course))
             }
             Change::Close => {
                 self.close();
                 Ok(None)
             }
-            Change::AddUser(user) => self.add_user(alloc, user.into_user()),
+            Change::AddUser(user) => self.add_user(user.into_user()),
             Change::AddFloor(floor) => {
                 self.add_floor(floor)?;
                 Ok(None)
             }
             Change::SetChair(floor, chair) => {
-                let course = self.set_chair(alloc, floor, chair)?;
+                let course = self.set_chair(floor, chair)?;
                 Ok(Some(course))
             }
         }

@@ -5,6 +5,7 @@ ghost use Rattle.floor_config.specs.Configuration.{user_ids};
 
 use crate::decision::Sender;
 use crate::members::Members;
+use crate::spare::Spare;
 use floor_config::{Config, User};
 use floor_message::{Head, SharedInfo};
 use floor_queue::Requests;
@@ -26,6 +27,8 @@ pub(crate) struct State {
     pub shown: Vec<SharedInfo>,
     /// Whether it has not ended.
     pub is_open: bool,
+    /// The lists of the event before.
+    pub spare: Spare,
     ghost same_users: { users.items ≡ user_ids config.users },
     ghost same_floors: { requests.floors ≡ config.floors },
 }
@@ -56,6 +59,7 @@ impl State {
             members: Members::new(alloc),
             shown: Vec::new(alloc),
             is_open: true,
+            spare: Spare::new(alloc),
         })
     }
 

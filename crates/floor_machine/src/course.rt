@@ -2,14 +2,15 @@
 //! those that it changed. What changes a conference writes it, and what tells of the change reads it.
 
 ghost use Rattle.std.specs.Option.{option_copied};
-ghost use Rattle.std.specs.Prelude.{◌≡◌, ◌==◌, [], IfOk, find, map};
+ghost use Rattle.std.specs.Prelude.{◌≡◌, ◌==◌, ◌++◌, [], IfOk, OnOk, find, map};
 ghost use Rattle.floor_queue.specs.Queue.{IsQueue, numbers_of};
 ghost use Rattle.floor_machine.specs.steps.Marks.{mark_of};
 
 use crate::marks::{Mark, mark_all};
+use crate::spare::Spare;
 use floor_message::{RequestStatus, SharedInfo};
 use floor_queue::{Request, Requests};
-use std::alloc::{AllocError, Global};
+use std::alloc::AllocError;
 use std::mem;
 
 /// A floor request that an event ended.
@@ -36,7 +37,7 @@ pub(crate) struct Course {
 
 /// The course of an event that begins: what was shown is moved into it.
 pub(crate) fn begin(
-    alloc: Global,
+    spare: &mut Spare,
     requests: &Requests,
     shown: &mut Vec<SharedInfo>,
 ) -> Result<Course, AllocError>
@@ -47,18 +48,20 @@ pub(crate) fn begin(
     ensures marks { IfOk result (λ course. course.marks.items ≡ []) }
     ensures queue { IfOk result (λ course. IsQueue requests.now) }
 {
-    let numbers = numbers_of(alloc, requests.ongoing())?;
+    let mut numbers = spare.take_numbers();
+    note_numbers(&mut numbers, requests.ongoing())?;
+    let alloc = *numbers.allocator();
     Ok(Course {
         before: mem::replace(shown, Vec::new(alloc)),
         numbers,
-        ended: Vec::new(alloc),
-        marks: Vec::new(alloc),
+        ended: spare.take_ended(),
+        marks: spare.take_marks(),
     })
 }
 
 /// The course of an event by which each ongoing request may be shown otherwise.
 pub(crate) fn begin_with_all(
-    alloc: Global,
+    spare: &mut Spare,
     requests: &Requests,
     shown: &mut Vec<SharedInfo>,
 ) -> Result<Course, AllocError>
@@ -70,15 +73,20 @@ pub(crate) fn begin_with_all(
         ≡ map mark_of requests.now.ongoing) }
     ensures queue { IfOk result (λ course. IsQueue requests.now) }
 {
-    let mut course = begin(alloc, requests, shown)?;
+    let mut course = begin(spare, requests, shown)?;
     mark_all(&mut course.marks, requests.ongoing())?;
     Ok(course)
 }
 
-fn numbers_of(alloc: Global, requests: &[Request]) -> Result<Vec<u16>, AllocError>
-    ensures { IfOk result (λ numbers. numbers.items ≡ numbers_of requests.now) }
+/// Notes the numbers of the requests.
+fn note_numbers(numbers: &mut Vec<u16>, requests: &[Request]) -> Result<(), AllocError>
+    ensures { OnOk result (numbers.new.items ≡ numbers.old.items ++ numbers_of requests.now) }
 {
-    requests.iter().map(|r| r.number).collect(alloc)
+    numbers.reserve(requests.len())?;
+    for request in requests {
+        numbers.push(request.number)?;
+    }
+    Ok(())
 }
 
 pub(crate) fn find_ended(ended: &[Ended], number: u16) -> Option<&Ended>

@@ -18,6 +18,7 @@ mod machine;
 mod marks;
 mod member;
 mod members;
+mod named;
 mod outcome;
 mod parcel;
 mod replied;
@@ -25,6 +26,7 @@ mod reply;
 mod running;
 mod said;
 mod serve;
+mod spare;
 mod tell;
 
 pub use act::Act;

@@ -8,8 +8,8 @@ ghost use Rattle.floor_queue.specs.Order.{names};
 ghost use Rattle.floor_machine.specs.steps.Marks as spec;
 ghost use Rattle.floor_machine.specs.steps.Marks.{is_before, has_granting_chair, mark_of, marks_at, marks_waiting, waiting_mark};
 
+use crate::named::Named;
 use floor_queue::{Request, RequestedFloor, Requests, Word};
-use floor_wire::Numbers;
 use std::alloc::{AllocError, Global};
 
 /// What the place of others goes by, of a floor request that an event changed: as it was before the
@@ -25,7 +25,7 @@ pub(crate) struct Mark {
     /// Its priority.
     pub priority: u8,
     /// The floors that it names.
-    pub floors: Numbers,
+    pub floors: Named,
 }
 
 /// Whether the chair's last word was Granted.
@@ -50,11 +50,14 @@ fn has_granting_chair(request: &Request) -> bool
         .any(|f| is_granting(f.word))
 }
 
-fn floors_of(alloc: Global, floors: &[RequestedFloor]) -> Result<Numbers, AllocError>
+fn floors_of(alloc: Global, floors: &[RequestedFloor]) -> Result<Named, AllocError>
     ensures { IfOk result (λ numbers. numbers ≡ map (λ f. f.floor) floors.now) }
 {
+    if let [one] = floors {
+        return Ok(Named::one(one.floor));
+    }
     let numbers = floors.iter().map(|f| f.floor).collect(alloc)?;
-    Ok(Numbers::from_vec(numbers))
+    Ok(Named::from_vec(numbers))
 }
 
 /// The mark of a request as it is.

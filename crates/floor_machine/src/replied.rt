@@ -1,30 +1,39 @@
 //! What a message is answered (RFC 8855, section 13).
 
 ghost use Rattle.std.specs.Prelude.{◌≡◌, ◌∷◌, []};
+ghost use Rattle.floor_message.specs.Shown.{IsShown};
+ghost use Rattle.floor_machine.specs.steps.Replies.{hello_ack};
 
 use crate::tell::changed::SharedStatus;
 use floor_message::{Head, Tell};
-use std::alloc::Global;
+use floor_wire::Octets;
 use std::marker::Model;
 
-/// The messages of an answer. The status of a floor request shares what is shown of the request.
-/// Contracts see the messages.
+/// The messages of an answer. Contracts see the messages.
 #[derive(Debug, Drop)]
 pub(crate) struct Messages {
-    /// The status of a floor request, where it is the first.
-    pub status: Option<SharedStatus>,
-    /// All others.
-    pub others: Vec<Tell>,
+    pub form: Form,
+}
+
+/// Where they lie.
+#[derive(Debug, Drop)]
+pub(crate) enum Form {
+    /// The status of a floor request, which shares what is shown of the request.
+    Status(SharedStatus),
+    /// What the server supports, which is made where it is written.
+    Hello,
+    /// Others.
+    Others(Vec<Tell>),
 }
 
 impl Model for Messages {
-    ghost use Rattle.std.specs.Prelude.{List, ◌++◌};
+    ghost use Rattle.std.specs.Prelude.{List};
     ghost use Rattle.floor_message.specs.declared.tell.Tell.{Tell};
-    ghost use Rattle.floor_machine.specs.steps.Telling.{listed};
+    ghost use Rattle.floor_machine.specs.steps.Replies.{messages_of};
 
     ghost Value = { List Tell };
 
-    ghost view = { λ m. listed m.status ++ m.others.items };
+    ghost view = { λ m. messages_of m.form };
 }
 
 impl Messages {
@@ -33,19 +42,36 @@ impl Messages {
         ensures { result ≡ tells.items }
     {
         Messages {
-            status: None,
-            others: tells,
+            form: Form::Others(tells),
         }
     }
 
     /// The status of a floor request. Takes no memory.
-    pub(crate) fn of_status(alloc: Global, status: SharedStatus) -> Messages
+    pub(crate) fn of_status(status: SharedStatus) -> Messages
         ensures { result ≡ status ∷ [] }
     {
         Messages {
-            status: Some(status),
-            others: Vec::new(alloc),
+            form: Form::Status(status),
         }
+    }
+
+    /// What the server supports. Takes no memory.
+    pub(crate) fn hello() -> Messages
+        ensures { result ≡ hello_ack ∷ [] }
+    {
+        Messages { form: Form::Hello }
+    }
+}
+
+/// The message that says what the server supports. Takes no memory.
+#[tactic(auto, unfolding(floor_wire::specs::Held::counted))]
+pub(crate) fn hello_ack() -> Tell
+    ensures value { result ≡ hello_ack }
+    ensures shown { IsShown result }
+{
+    Tell::HelloAck {
+        primitives: Octets::up_to(13),
+        attributes: Octets::up_to(18),
     }
 }
 

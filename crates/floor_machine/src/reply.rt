@@ -17,7 +17,6 @@ use crate::replied::{Messages, Replied};
 use crate::tell::changed::{SharedStatus, find_update};
 use floor_config::Config;
 use floor_message::{Infos, SharedInfo, Tell, Who};
-use floor_wire::Octets;
 use std::alloc::{AllocError, Global};
 
 impl Outcome<'_> {
@@ -63,7 +62,7 @@ impl Outcome<'_> {
                 Ok(Messages::of(tells))
             }
             Reply::Ack => Ok(Messages::of(one(alloc, Tell::ChairActionAck)?)),
-            Reply::Hello => Ok(Messages::of(hello_tells(alloc)?)),
+            Reply::Hello => Ok(Messages::hello()),
             Reply::Error(code, details) => {
                 let tell = Tell::Error {
                     code: code.number(),
@@ -83,7 +82,7 @@ impl Outcome<'_> {
         match find_update(self.updates.as_slice(), number) {
             Some(update) => {
                 let status = update.tell.share()?;
-                Ok(Messages::of_status(alloc, status))
+                Ok(Messages::of_status(status))
             }
             None => self.status_anew(alloc, number),
         }
@@ -104,7 +103,7 @@ impl Outcome<'_> {
             None => Ok(Messages::of(Vec::new(alloc))),
             Some(shown) => {
                 let status = SharedStatus::of(SharedInfo::new(alloc, shown.info)?);
-                Ok(Messages::of_status(alloc, status))
+                Ok(Messages::of_status(status))
             }
         }
     }
@@ -178,21 +177,6 @@ fn floor_statuses(
         tells.push(floor_status(alloc, *floor, now)?)?;
     }
     Ok(tells)
-}
-
-#[tactic(auto, unfolding(floor_wire::specs::Held::counted))]
-fn hello_tells(alloc: Global) -> Result<Vec<Tell>, AllocError>
-    ensures value { IfOk result (λ tells. tells.items
-        ≡ Tell.HelloAck replies.supported_primitives replies.supported_attributes ∷ []) }
-    ensures shown { IfOk result (λ tells. All IsShown tells.items) }
-{
-    one(
-        alloc,
-        Tell::HelloAck {
-            primitives: Octets::up_to(13),
-            attributes: Octets::up_to(18),
-        },
-    )
 }
 
 /// One message.

@@ -2,7 +2,7 @@
 //! It is read as from a connection of the user (RFC 8855, sections 5.1 to 5.3 and 13), and asks by a
 //! FloorRequest, a FloorRelease or a ChairAction alone.
 
-ghost use Rattle.std.specs.Prelude.{◌≡◌, All, IfErr, IfOk, if◌then◌else◌, is_some, map};
+ghost use Rattle.std.specs.Prelude.{◌≡◌, ◌∷◌, [], All, IfErr, IfOk, if◌then◌else◌, is_some, map};
 ghost use Rattle.floor_message.specs.Ask.{Answer, HasShortDetails, IsAnswer};
 ghost use Rattle.floor_message.specs.Binding.{binding_of};
 ghost use Rattle.floor_message.specs.Picked.{first};
@@ -12,9 +12,10 @@ ghost use Rattle.floor_machine.specs.Outgoing.{outgoing_bytes};
 ghost use Rattle.floor_machine.specs.Said as spec;
 ghost use Rattle.floor_machine.specs.Said.{sayable};
 ghost use Rattle.floor_machine.specs.steps.Deciding.{barred, heard, is_of_header};
+ghost use Rattle.floor_machine.specs.steps.Replies.{hello_ack};
 ghost use Rattle.floor_machine.specs.steps.Telling.{answered, said_of};
 
-use crate::replied::{Messages, Replied};
+use crate::replied::{Form, Messages, Replied, hello_ack};
 use floor_message::{
     Ask, AskFault, Binding, ErrorCode, Head, Primitive, Tell, read_ask, what_is_shown_fits,
     write_tell_alone,
@@ -140,10 +141,22 @@ fn first(alloc: Global, head: &Head, messages: &Messages) -> Result<Option<Share
     ensures { IfOk result (λ message. message
         ≡ first (map outgoing_bytes (answered head.now messages.now))) }
 {
-    match &messages.status {
-        Some(status) => Ok(Some(status.write(alloc, head)?)),
-        None => first_tell(alloc, head, &messages.others),
+    match &messages.form {
+        Form::Status(status) => Ok(Some(status.write(alloc, head)?)),
+        Form::Hello => first_hello(alloc, head),
+        Form::Others(tells) => first_tell(alloc, head, tells),
     }
+}
+
+/// What the server supports, under this head.
+#[tactic(auto, unfolding(crate::specs::Outgoing::outgoing_bytes))]
+fn first_hello(alloc: Global, head: &Head) -> Result<Option<SharedFrame>, AllocError>
+    ensures { IfOk result (λ message. message
+        ≡ first (map outgoing_bytes (answered head.now (hello_ack ∷ [])))) }
+{
+    what_is_shown_fits();
+    let tell = hello_ack();
+    Ok(Some(write_tell_alone(alloc, head, &tell)?))
 }
 
 /// The first of these messages under this head.

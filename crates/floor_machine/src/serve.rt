@@ -60,7 +60,7 @@ impl State {
         let alloc = self.members.allocator();
         // The requests ascend, so that no two have one number.
         let _ongoing = self.requests.ongoing();
-        match self.change(alloc, decision.change)? {
+        match self.change(decision.change)? {
             Some(mut course) => {
                 let changes = self.settle(alloc, &mut course)?;
                 put_shown(changes.updates.as_slice(), changed)?;
@@ -72,6 +72,7 @@ impl State {
                 let reply = outcome.answer(alloc, sender, decision.reply)?;
                 let said = handed(alloc, &reply)?;
                 self.tell(alloc, &changes, &reply, out)?;
+                self.spare.keep(course, changes);
                 Ok(said)
             }
             // Its sender alone is told anything, and nothing that is shown is looked at.
@@ -117,7 +118,8 @@ impl State {
             config: &self.config,
             requests: &self.requests,
         };
-        renew(alloc, &settled, course, &mut self.shown)
+        let changes = self.spare.take_changes();
+        renew(alloc, &settled, course, &mut self.shown, changes)
     }
 
     /// Tells each live member what the event changed, or cuts it. After an error `out` is as it was.
@@ -151,7 +153,7 @@ impl State {
         let conference = self.config.conference();
         let floors = watched_floors(alloc, &self.config, &self.members, &changes.floors)?;
         let notices = floor_notices(alloc, conference, &floors, &self.shown)?;
-        let mut parcels = Vec::new(alloc);
+        let mut parcels = emptied(out);
         let due = Due {
             conference,
             reply,
@@ -181,11 +183,23 @@ impl State {
         ensures rest { IsAtRest self.new }
     {
         let conference = self.config.conference();
-        let mut parcels = Vec::new(alloc);
+        let mut parcels = emptied(out);
         self.members
             .tell_sender(alloc, &mut parcels, conference, reply)?;
         put_behind(out, parcels)
     }
+}
+
+/// A list for parcels, which has the memory of the other one where none are there. Takes no memory.
+fn emptied(out: &mut Vec<Parcel>) -> Vec<Parcel>
+    ensures value { result.items ≡ [] }
+    ensures left { out.new.items ≡ out.old.items }
+{
+    let none = Vec::new(*out.allocator());
+    if out.is_empty() {
+        return mem::replace(out, none);
+    }
+    none
 }
 
 /// Puts parcels behind those that are there, or in place of none. After an error `out` is as it was.

@@ -11,6 +11,7 @@ ghost use Rattle.floor_queue.specs.Requested.{floor_with_word};
 ghost use Rattle.floor_queue.specs.steps.Lines.{AreLines, AreMarked, added, marked, moved, rank_of, without_lost};
 ghost use Rattle.floor_queue.specs.steps.Parties.{with_parties};
 
+use crate::index::free_if_empty;
 use crate::index::lines::Lines;
 use crate::index::parties::Parties;
 use crate::index::rank::{Rank, rank_of};
@@ -21,8 +22,8 @@ use floor_wire::Octets;
 use std::alloc::{AllocError, Global};
 use std::marker::Model;
 
-/// The ongoing requests, by ascending number. They take memory with the first, and give it back with
-/// the last.
+/// The ongoing requests, by ascending number. They take memory with the first, and give what more than a
+/// few need back with the last.
 ///
 /// `add`, `store_word`, `grant` and `change_chairs` put what they change into the lines of its floors
 /// as well; whoever calls `end` or `clear` does so itself. `set_reason` changes nothing that a line
@@ -258,16 +259,14 @@ fn add_to_indexes(
     Ok(())
 }
 
-/// Takes out the request at this place. The last one that is taken out gives the memory back.
+/// Takes out the request at this place. The last one that is taken out gives back what more than a few need.
 fn take_out(requests: &mut Vec<Request>, place: usize) -> Request
     requires { place < length requests.old.items }
     ensures value { result ≡ slice_index_or requests.old.items place result }
     ensures items { requests.new.items ≡ remove requests.old.items place }
 {
     let request = requests.remove(place);
-    if requests.is_empty() {
-        requests.shrink_to_fit();
-    }
+    free_if_empty(requests);
     request
 }
 

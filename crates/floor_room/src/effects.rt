@@ -2,7 +2,7 @@
 
 ghost use Rattle.std.specs.Prelude.{◌≡◌, []};
 
-use floor_machine::SharedInfo;
+use floor_machine::{Parcel, SharedInfo};
 use std::alloc::Global;
 
 /// What an event did. A call puts it in place of what stood there, and one that is refused leaves nothing.
@@ -14,6 +14,8 @@ pub struct Effects {
     /// What is shown now of each floor request that the event changed, ascending: of a new one, of one
     /// that ended with its status, and of one that is shown otherwise than before.
     pub changed: Vec<SharedInfo>,
+    // What the event told, until it is queued.
+    pub(crate) parcels: Vec<Parcel>,
 }
 
 impl Effects {
@@ -25,6 +27,7 @@ impl Effects {
         Effects {
             told: Vec::new(alloc),
             changed: Vec::new(alloc),
+            parcels: Vec::new(alloc),
         }
     }
 

@@ -69,10 +69,12 @@ impl Ledger {
     pub fn new(alloc: Global, config: Config) -> Result<Ledger, AllocError>
         ensures value { IfOk result (λ ledger. ledger ≡ new_ledger config) }
     {
-        let copy = config.copy(alloc)?;
-        let machine = Machine::new(alloc, copy)?;
+        // Both are copies, of exactly their length: what was read stands above the text's tree, and would keep
+        // the memory of that from going back to the system.
+        let opened = config.copy(alloc)?;
+        let machine = Machine::new(alloc, config.copy(alloc)?)?;
         Ok(Ledger {
-            config,
+            config: opened,
             machine,
             journal: Vec::new(alloc),
             copies: Copies::new(alloc),
@@ -213,16 +215,9 @@ impl Ledger {
         ensures refused { IsRefusedBy (refusal self.old event) result }
         ensures left { IfErr result (Unadded self.old self.new) }
     {
-        match self.call(event, changed) {
-            Ok(called) => {
-                let Called {
-                    parcels,
-                    reply: _reply,
-                } = called;
-                Ok(parcels)
-            }
-            Err(refusal) => Err(refusal),
-        }
+        let mut parcels = Vec::new(*self.journal.allocator());
+        let _reply = self.call(event, &mut parcels, changed)?;
+        Ok(parcels)
     }
 
     /// Adds a message that the administrator says for a user, as `add` adds an event, and gives what
@@ -243,33 +238,34 @@ impl Ledger {
         ensures refused { IsRefusedBy (refusal self.old (Say user frame)) result }
         ensures left { IfErr result (Unadded self.old self.new) }
     {
-        self.call(Event::Say { user, frame }, changed)
+        let mut parcels = Vec::new(*self.journal.allocator());
+        let reply = self.call(Event::Say { user, frame }, &mut parcels, changed)?;
+        Ok(Called { parcels, reply })
     }
 
-    /// Adds an event, and gives all that it calls for.
+    /// Adds an event, puts the parcels that it calls for into `out`, in place of what stood there, and gives
+    /// what answers a message that is said.
     pub(crate) fn call(
         &mut self,
         event: Event,
+        out: &mut Vec<Parcel>,
         changed: &mut Vec<SharedInfo>,
-    ) -> Result<Called, RoomRefusal>
-        ensures took { IfOk result (λ called.
-            Added self.old self.new event called.parcels.items) }
-        ensures reply { IfOk result (λ called.
-            called.reply ≡ said_reply (conference_of self.old) event) }
+    ) -> Result<Option<SharedFrame>, RoomRefusal>
+        ensures took { OnOk result (Added self.old self.new event out.new.items) }
+        ensures reply { IfOk result (λ reply. reply ≡ said_reply (conference_of self.old) event) }
         ensures changed { OnOk result
             (changed.new.items ≡ infos_changed (conference_of self.old) event) }
         ensures unchanged { OnErr result (changed.new.items ≡ []) }
         ensures refused { IsRefusedBy (refusal self.old event) result }
         ensures left { IfErr result (Unadded self.old self.new) }
     {
+        out.clear();
         changed.clear();
         match self.closed() {
             Some(refusal) => return Err(refusal),
             None => {}
         }
-        let alloc = *self.journal.allocator();
-        let mut out = Vec::new(alloc);
-        let reply = match self.machine.apply(&event, &mut out, changed) {
+        let reply = match self.machine.apply(&event, out, changed) {
             Ok(reply) => reply,
             Err(Refusal::Memory) => {
                 self.is_broken = true;
@@ -282,10 +278,7 @@ impl Ledger {
         match put(&mut self.journal, &mut self.copies, event) {
             Ok(()) => {
                 self.is_broken = false;
-                Ok(Called {
-                    parcels: out,
-                    reply,
-                })
+                Ok(reply)
             }
             Err(refused) => {
                 changed.clear();

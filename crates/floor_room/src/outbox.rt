@@ -141,17 +141,17 @@ fn note(told: &mut Vec<u32>, outboxes: &[Outbox], n: u32) -> Result<(), AllocErr
 /// After an error some first of them were put.
 fn deliver(
     outboxes: &mut Vec<Outbox>,
-    out: Vec<Parcel>,
+    out: &mut Vec<Parcel>,
     told: &mut Vec<u32>,
 ) -> Result<(), AllocError>
-    ensures next { OnOk result (outboxes.new.items ≡ delivered out.items 1 outboxes.old.items) }
+    ensures next { OnOk result (outboxes.new.items ≡ delivered out.old.items 1 outboxes.old.items) }
     ensures told { OnOk result (AreTold outboxes.old.items outboxes.new.items told.new.items) }
-    ensures left { OnErr result (IsInPart out.items outboxes.old.items outboxes.new.items) }
-    ensures count { length out.items < 18446744073709551616 }
+    ensures left { OnErr result (IsInPart out.old.items outboxes.old.items outboxes.new.items) }
+    ensures count { length out.old.items < 18446744073709551616 }
 {
     let _count = out.len();
     told.clear();
-    for parcel in out {
+    for parcel in out.drain(..) {
         note(told, outboxes, parcel.n())?;
         put(outboxes, parcel)?;
     }
@@ -167,18 +167,18 @@ fn deliver(
 pub(crate) fn queue(
     outboxes: &mut Vec<Outbox>,
     outbox: Option<Outbox>,
-    out: Vec<Parcel>,
+    out: &mut Vec<Parcel>,
     told: &mut Vec<u32>,
 ) -> Result<(), AllocError>
     requires { vec_len outboxes.old < vec_capacity outboxes.old }
     ensures next { OnOk result (outboxes.new.items
-        ≡ delivered out.items 1 (outboxes.old.items ++ option_to_list outbox)) }
+        ≡ delivered out.old.items 1 (outboxes.old.items ++ option_to_list outbox)) }
     ensures told { OnOk result (AreTold (outboxes.old.items ++ option_to_list outbox)
         outboxes.new.items told.new.items) }
     ensures spare { OnOk result (vec_len outboxes.new < vec_capacity outboxes.new) }
-    ensures left { OnErr result (IsInPart out.items
+    ensures left { OnErr result (IsInPart out.old.items
         (outboxes.old.items ++ option_to_list outbox) outboxes.new.items) }
-    ensures count { length out.items < 18446744073709551616 }
+    ensures count { length out.old.items < 18446744073709551616 }
 {
     match outbox {
         Some(outbox) => outboxes.push_reserved(outbox),

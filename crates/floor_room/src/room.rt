@@ -17,7 +17,7 @@ ghost use Rattle.std.specs.Option.{option_copied};
 
 use crate::effects::Effects;
 use crate::journal::Place;
-use crate::ledger::{Called, Ledger};
+use crate::ledger::Ledger;
 use crate::outbox::{NoMember, Outbox, held_of, outbox_for, queue, take};
 use crate::refusal::RoomRefusal;
 use crate::said::Said;
@@ -205,10 +205,10 @@ impl Room {
     {
         effects.clear();
         let outbox = outbox_for(*self.outboxes.allocator(), &event);
-        match self.ledger.call(event, &mut effects.changed) {
+        let parcels = &mut effects.parcels;
+        match self.ledger.call(event, parcels, &mut effects.changed) {
             Err(refusal) => Err(refusal),
-            Ok(called) => {
-                let Called { parcels, reply } = called;
+            Ok(reply) => {
                 let tells = !parcels.is_empty();
                 match queue(&mut self.outboxes, outbox, parcels, &mut effects.told) {
                     Ok(()) => {

@@ -94,7 +94,6 @@ impl State {
     /// gives one, before the requests are settled.
     pub(crate) fn leave_words(
         &mut self,
-        alloc: Global,
         request: u16,
         verdicts: &[(u16, Verdict)],
         reason: Option<Octets>,
@@ -106,7 +105,7 @@ impl State {
         ensures taken { IfOk result (λ course.
             IsUnderWay self.old (Words request verdicts.now reason) self.new course) }
     {
-        let mut course = begin(alloc, &self.requests, &mut self.shown)?;
+        let mut course = begin(&mut self.spare, &self.requests, &mut self.shown)?;
         give_reason(&mut self.requests, &mut course.marks, request, reason)?;
         leave_words(&mut self.requests, &mut course.marks, request, verdicts)?;
         Ok(course)

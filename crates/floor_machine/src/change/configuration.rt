@@ -13,7 +13,7 @@ use crate::conference::State;
 use crate::course::{Course, begin_with_all};
 use floor_config::{Floor, User};
 use floor_queue::Request;
-use std::alloc::{AllocError, Global};
+use std::alloc::AllocError;
 
 impl State {
     /// The conference ends: no request is ongoing any more. Takes no memory.
@@ -27,18 +27,14 @@ impl State {
     }
 
     /// The conference gets a user. Only a request that involves the user may be shown otherwise.
-    pub(crate) fn add_user(
-        &mut self,
-        alloc: Global,
-        user: User,
-    ) -> Result<Option<Course>, AllocError>
+    pub(crate) fn add_user(&mut self, user: User) -> Result<Option<Course>, AllocError>
         requires may { user_fault self.old.config user ≡ None }
         requires rest { IsAtRest self.old }
         ensures taken { IfOk result (IsTaken self.old (AddUser user) self.new) }
     {
         let is_involved = involve(self.requests.ongoing(), user.id);
         if is_involved {
-            let course = self.add_involved(alloc, user)?;
+            let course = self.add_involved(user)?;
             Ok(Some(course))
         } else {
             self.add_stranger(user)?;
@@ -57,12 +53,12 @@ impl State {
     }
 
     /// The conference gets a user whom an ongoing request may involve.
-    fn add_involved(&mut self, alloc: Global, user: User) -> Result<Course, AllocError>
+    fn add_involved(&mut self, user: User) -> Result<Course, AllocError>
         requires may { user_fault self.old.config user ≡ None }
         requires rest { IsAtRest self.old }
         ensures taken { IfOk result (λ course. IsUnderWay self.old (AddUser user) self.new course) }
     {
-        let course = begin_with_all(alloc, &self.requests, &mut self.shown)?;
+        let course = begin_with_all(&mut self.spare, &self.requests, &mut self.shown)?;
         self.put_user(user)?;
         Ok(course)
     }
@@ -80,18 +76,13 @@ impl State {
 
     /// A floor gets another chair, or none: whoever waits for a chair that is taken away may be granted
     /// at once.
-    pub(crate) fn set_chair(
-        &mut self,
-        alloc: Global,
-        floor: u16,
-        chair: Option<u16>,
-    ) -> Result<Course, AllocError>
+    pub(crate) fn set_chair(&mut self, floor: u16, chair: Option<u16>) -> Result<Course, AllocError>
         requires may { chair_fault self.old.config floor chair ≡ None }
         requires rest { IsAtRest self.old }
         ensures taken { IfOk result (λ course.
             IsUnderWay self.old (SetChair floor chair) self.new course) }
     {
-        let course = begin_with_all(alloc, &self.requests, &mut self.shown)?;
+        let course = begin_with_all(&mut self.spare, &self.requests, &mut self.shown)?;
         self.put_chair(floor, chair)?;
         Ok(course)
     }

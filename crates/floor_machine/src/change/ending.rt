@@ -17,7 +17,7 @@ use crate::marks::{Mark, mark_request};
 use floor_message::RequestStatus;
 use floor_queue::{Request, Requests};
 use floor_wire::Octets;
-use std::alloc::{AllocError, Global};
+use std::alloc::AllocError;
 
 /// How a request ends that is given back.
 fn released(request: &Request) -> RequestStatus
@@ -56,7 +56,6 @@ impl State {
     /// one, before the others are settled.
     pub(crate) fn end_ongoing(
         &mut self,
-        alloc: Global,
         request: u16,
         by: EndedBy,
         reason: Option<Octets>,
@@ -67,7 +66,7 @@ impl State {
         ensures taken { IfOk result (λ course.
             IsUnderWay self.old (End request by reason) self.new course) }
     {
-        let course = begin(alloc, &self.requests, &mut self.shown)?;
+        let course = begin(&mut self.spare, &self.requests, &mut self.shown)?;
         let Course {
             before,
             numbers,

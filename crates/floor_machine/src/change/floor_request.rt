@@ -85,13 +85,13 @@ impl State {
     }
 
     /// Adds a request, before the requests are settled.
-    pub(crate) fn add_request(&mut self, alloc: Global, new: New) -> Result<Course, AllocError>
+    pub(crate) fn add_request(&mut self, new: New) -> Result<Course, AllocError>
         requires addable { IsAddable self.old.config.floors new }
         requires room { HasRoom self.old.requests.ongoing self.old.requests.given }
         requires rest { IsAtRest self.old }
         ensures taken { IfOk result (λ course. IsUnderWay self.old (Add new) self.new course) }
     {
-        let course = begin(alloc, &self.requests, &mut self.shown)?;
+        let course = begin(&mut self.spare, &self.requests, &mut self.shown)?;
         let Course {
             before,
             mut numbers,

@@ -20,7 +20,7 @@ use crate::course::{Course, Ended, begin};
 use crate::decision::EndedBy;
 use crate::marks::Mark;
 use floor_queue::Requests;
-use std::alloc::{AllocError, Global};
+use std::alloc::AllocError;
 
 impl State {
     /// Adds a live member, which gets the next number. After an error nothing has changed.
@@ -59,11 +59,11 @@ impl State {
     }
 
     /// A member leaves, before the requests are settled.
-    pub(crate) fn leave(&mut self, alloc: Global, n: u32) -> Result<Course, AllocError>
+    pub(crate) fn leave(&mut self, n: u32) -> Result<Course, AllocError>
         requires rest { IsAtRest self.old }
         ensures taken { IfOk result (λ course. IsUnderWay self.old (Decided.Leave n) self.new course) }
     {
-        let mut course = begin(alloc, &self.requests, &mut self.shown)?;
+        let mut course = begin(&mut self.spare, &self.requests, &mut self.shown)?;
         self.change_left(&mut course, n)?;
         Ok(course)
     }

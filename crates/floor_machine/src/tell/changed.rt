@@ -10,6 +10,7 @@ ghost use Rattle.floor_machine.specs.Told.{is_status_of};
 ghost use Rattle.floor_machine.specs.steps.Fitting.{AreUpdatesShown};
 ghost use Rattle.floor_machine.specs.steps.Telling as telling;
 
+use crate::spare::kept;
 use floor_message::{Head, SharedInfo, what_is_shown_fits, write_request_status};
 use floor_queue::Request;
 use floor_wire::SharedFrame;
@@ -140,6 +141,25 @@ impl Updates {
         };
         self.items.push_reserved(update);
         Ok(())
+    }
+
+    /// Takes all statuses out. Takes no memory.
+    pub(crate) fn clear(&mut self)
+        ensures { self.new ≡ [] }
+    {
+        self.items.clear();
+        self.users.clear();
+    }
+
+    /// No status, with the memory of these where that isn't much. Takes none.
+    pub(crate) fn kept(self) -> Updates
+        ensures { result ≡ [] }
+    {
+        let Updates { items, users } = self;
+        Updates {
+            items: kept(items),
+            users: kept(users),
+        }
     }
 
     /// Whether some status concerns the user.

@@ -6,11 +6,12 @@ ghost use Rattle.std.specs.Prelude.{◌≡◌, ◌++◌, ◌∷◌, [], All, OnO
 ghost use Rattle.floor_message.specs.Shown.{IsShown};
 ghost use Rattle.floor_machine.specs.Journal.{parcel};
 ghost use Rattle.floor_machine.specs.Told.{is_status_of};
+ghost use Rattle.floor_machine.specs.steps.Replies.{hello_ack};
 ghost use Rattle.floor_machine.specs.steps.Telling.{answered, answered_to, floor_notice_to, is_answered, is_concerned, is_due_to, is_noticed, is_to, noticed_to, update_to};
 
 use crate::member::Member;
 use crate::parcel::Parcel;
-use crate::replied::{Messages, Replied};
+use crate::replied::{Form, Messages, Replied, hello_ack};
 use crate::tell::changed::{SharedStatus, Update, Updates};
 use crate::tell::notices::FloorNotice;
 use crate::tell::watching::watches;
@@ -118,17 +119,20 @@ fn put_answer(
     ensures { OnOk result (out.new.items
         ≡ out.old.items ++ map (parcel n) (answered first messages.now)) }
 {
-    match &messages.status {
-        None => put_tells(alloc, out, n, first, &messages.others),
-        Some(status) => {
-            put_status(alloc, out, n, &first, status)?;
-            let head = Head {
-                transaction: 0,
-                ..first
-            };
-            put_tells(alloc, out, n, head, &messages.others)
-        }
+    match &messages.form {
+        Form::Status(status) => put_status(alloc, out, n, &first, status),
+        Form::Hello => put_hello(alloc, out, n, &first),
+        Form::Others(tells) => put_tells(alloc, out, n, first, tells),
     }
+}
+
+/// Puts what the server supports.
+fn put_hello(alloc: Global, out: &mut Vec<Parcel>, n: u32, head: &Head) -> Result<(), AllocError>
+    ensures { OnOk result (out.new.items
+        ≡ out.old.items ++ parcel n record { head = head.now; tell = hello_ack } ∷ []) }
+{
+    let tell = hello_ack();
+    put(alloc, out, n, head, &tell)
 }
 
 /// Puts messages of an answer, of which the first alone has the transaction.
@@ -264,9 +268,10 @@ fn is_answered(reply: &Option<Replied>, n: u32, request: u16) -> bool
 fn has_status_of(messages: &Messages, request: u16) -> bool
     ensures { result ≡ list_any (is_status_of request) messages.now }
 {
-    match &messages.status {
-        None => is_any_status_of(&messages.others, request),
-        Some(status) => { status.is_of(request) || is_any_status_of(&messages.others, request) }
+    match &messages.form {
+        Form::Status(status) => status.is_of(request),
+        Form::Hello => false,
+        Form::Others(tells) => is_any_status_of(tells, request),
     }
 }
 

@@ -20,6 +20,7 @@ use crate::information::in_place::is_described;
 use crate::information::settled::{OngoingRequest, Settled};
 use crate::information::showing::ended_info;
 use crate::marks::{Mark, is_marked};
+use crate::spare::{MAX_KEPT, kept};
 use crate::tell::changed::Updates;
 use floor_config::Config;
 use floor_message::{Info, SharedInfo};
@@ -35,6 +36,43 @@ pub(crate) struct Changes {
     pub floors: Vec<u16>,
     /// Where the statuses of one request are put together, so that memory is taken once for all.
     pub statuses: Vec<(u16, Option<(u8, u8)>)>,
+}
+
+impl Changes {
+    /// Nothing is changed. Takes no memory.
+    pub(crate) fn new(alloc: Global) -> Changes
+        ensures updates { result.updates ≡ [] }
+        ensures floors { result.floors.items ≡ [] }
+    {
+        Changes {
+            updates: Updates::new(alloc),
+            floors: Vec::new(alloc),
+            statuses: Vec::new(alloc),
+        }
+    }
+
+    /// Forgets what was changed. Takes no memory.
+    pub(crate) fn clear(&mut self)
+        ensures updates { self.new.updates ≡ [] }
+        ensures floors { self.new.floors.items ≡ [] }
+    {
+        self.updates.clear();
+        self.floors.clear();
+    }
+
+    /// No changes, with the memory of these where that isn't much. Takes none.
+    pub(crate) fn kept(self) -> Changes {
+        let Changes {
+            updates,
+            floors,
+            statuses,
+        } = self;
+        Changes {
+            updates: updates.kept(),
+            floors: kept(floors),
+            statuses: kept(statuses),
+        }
+    }
 }
 
 /// The info at the place, if it is that of the request with this number.
@@ -137,7 +175,7 @@ fn take_info(infos: &mut Vec<SharedInfo>, place: usize, number: u16)
         Some(_shown) => {
             let _taken = infos.remove(place);
             // What showed 256 requests would take some 50 kB while none is ongoing.
-            if infos.is_empty() {
+            if infos.is_empty() && MAX_KEPT < infos.capacity() {
                 infos.shrink_to_fit();
             }
         }
@@ -367,7 +405,10 @@ fn renew_some(
     course: &Course,
     some: &[u16],
     infos: &mut Vec<SharedInfo>,
+    mut changes: Changes,
 ) -> Result<Changes, AllocError>
+    requires unchanged { changes.updates ≡ [] }
+    requires unmoved { changes.floors.items ≡ [] }
     requires course { IsCourse settled.now.config.now settled.now.requests.now.ongoing
         infos.old.items course.now }
     requires fit { All IsShownInfo infos.old.items }
@@ -384,11 +425,6 @@ fn renew_some(
     ensures fit { OnOk result (All IsShownInfo infos.new.items) }
     ensures kept { IfOk result (λ changes. AreUpdatesShown changes.updates) }
 {
-    let mut changes = Changes {
-        updates: Updates::new(alloc),
-        floors: Vec::new(alloc),
-        statuses: Vec::new(alloc),
-    };
     let mut at = 0;
     let mut place = 0;
     for number in some {
@@ -413,7 +449,10 @@ pub(crate) fn renew(
     settled: &Settled<'_>,
     course: &Course,
     infos: &mut Vec<SharedInfo>,
+    changes: Changes,
 ) -> Result<Changes, AllocError>
+    requires unchanged { changes.updates ≡ [] }
+    requires unmoved { changes.floors.items ≡ [] }
     requires course { IsCourse settled.now.config.now settled.now.requests.now.ongoing
         infos.old.items course.now }
     requires fit { All IsShownInfo infos.old.items }
@@ -429,7 +468,7 @@ pub(crate) fn renew(
     ensures kept { IfOk result (λ changes. AreUpdatesShown changes.updates) }
 {
     match few_affected(alloc, settled.requests, course)? {
-        Some(few) => renew_some(alloc, settled, course, few.as_slice(), infos),
-        None => renew_some(alloc, settled, course, &course.numbers, infos),
+        Some(few) => renew_some(alloc, settled, course, few.as_slice(), infos, changes),
+        None => renew_some(alloc, settled, course, &course.numbers, infos, changes),
     }
 }

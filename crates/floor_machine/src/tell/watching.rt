@@ -83,5 +83,9 @@ pub(crate) fn watched_floors(
         ≡ filter (is_to_notice members.now changed.now) config.now.floors) }
     ensures kept { IfOk result (λ floors. All IsFloor floors.items) }
 {
+    // Mostly nobody watches, and no floor is looked at.
+    if members.watching().is_empty() {
+        return Ok(Vec::new(alloc));
+    }
     pick_watched(alloc, members, changed, config.floors())
 }

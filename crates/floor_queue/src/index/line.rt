@@ -12,7 +12,7 @@ use std::marker::Model;
 
 /// The requests of one floor in their order, and the floor's mark: whether one of its requests came,
 /// changed or ended since the queue was last settled. A line takes memory with its first request, and
-/// gives it back with its last.
+/// gives what more than a few need back with its last.
 #[derive(Debug, Drop)]
 pub(crate) struct Line {
     floor: u16,

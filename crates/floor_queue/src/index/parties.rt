@@ -4,6 +4,7 @@ ghost use Rattle.std.specs.Prelude.{◌≡◌, ◌==◌, ◌<◌, ◌≤◌, ◌
 ghost use Rattle.std.specs.List.{position_or_len};
 ghost use Rattle.floor_queue.specs.steps.Parties.{by_user, with_parties, with_party};
 
+use crate::index::free_if_empty;
 use std::alloc::{AllocError, Global};
 use std::marker::Model;
 
@@ -14,7 +15,8 @@ pub(crate) struct Party {
     pub(crate) number: u16,
 }
 
-/// The parties of the ongoing requests, by ascending user. It has no memory while there are none.
+/// The parties of the ongoing requests, by ascending user. It has memory for a few at most while there are
+/// none.
 #[derive(Debug, Drop)]
 pub(crate) struct Parties {
     parties: Vec<Party>,
@@ -86,9 +88,7 @@ impl Parties {
         ensures { self.new ≡ filter (λ p. not (p.number == number)) self.old }
     {
         self.parties.retain(|p| p.number != number);
-        if self.parties.is_empty() {
-            self.parties.shrink_to_fit();
-        }
+        free_if_empty(&mut self.parties);
     }
 
     /// Takes all parties out.

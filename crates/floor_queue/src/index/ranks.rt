@@ -3,12 +3,13 @@
 ghost use Rattle.std.specs.Prelude.{◌≡◌, ◌<◌, [], OnOk, OnErr, IsTrue, count_by, take, vec_len, vec_capacity};
 ghost use Rattle.floor_queue.specs.steps.Lines.{is_in_order, moved_rank, place_in, with_rank, without_rank};
 
+use crate::index::free_if_empty;
 use crate::index::rank::{Rank, before};
 use std::alloc::{AllocError, Global};
 use std::marker::Model;
 
-/// Ranks in their order: those of holders come first. They take memory with the first, and give it
-/// back with the last.
+/// Ranks in their order: those of holders come first. They take memory with the first, and give what more
+/// than a few need back with the last.
 #[derive(Debug, Drop)]
 pub(crate) struct Ranks {
     ranks: Vec<Rank>,
@@ -126,13 +127,4 @@ fn put_rank(ranks: &mut Vec<Rank>, rank: Rank)
 {
     let place = place_in(ranks, rank);
     let _room = ranks.insert(place, rank);
-}
-
-/// Gives the memory back, if no rank is left.
-fn free_if_empty(ranks: &mut Vec<Rank>)
-    ensures { ranks.new.items ≡ ranks.old.items }
-{
-    if ranks.is_empty() {
-        ranks.shrink_to_fit();
-    }
 }

@@ -1,5 +1,5 @@
-use Rattle.std.proofs.Common.{◌∷◌, ◌++◌, ◌||◌, ◌&&◌, ℕ, [], List, sym, ap, ◌∙◌, append_assoc}
-use Rattle.std.specs.Vec.Iter.{into_iter_items}
+use Rattle.std.proofs.Common.{◌∷◌, ◌++◌, ◌||◌, ◌&&◌, ℕ, [], List, sym, ap, ◌∙◌, append_assoc, arith, take_all, vec_len}
+use Rattle.std.specs.Vec.Iter.{drain_items}
 use Rattle.floor_machine.specs.Parcel.{Parcel}
 use Rattle.std.specs.Prelude.{◌==◌, is_some}
 use Rattle.std.specs.List.{list_any}
@@ -11,7 +11,9 @@ use Rattle.floor_room.proofs.outbox.deliver.Goals as goal
 
 pub loop-parcel-init : goal.loop-parcel-init
 loop-parcel-init c = record {
-  all = sym c.into_iter-parcel-iterator.ensures.into_iter_gives.0;
+  all = sym (ap drain_items c.into_iter-parcel-iterator.ensures.into_iter_gives
+      ∙ c.drain-parcel-items.ensures.rest
+      ∙ take_all (vec_len c.args.out.now) c.args.out.now.items (omega (arith, c.args.out.now.ok.0)));
   put = sym (delivered-none 1 c.args.outboxes.now.items);
   told = none-of c.args.outboxes.now.items c.clear.new.self.items c.clear.ensures.items;
 }
@@ -22,7 +24,7 @@ loop-parcel-preserved c =
     record {
       all = before.all
           ∙ ap (λ (ps : List Parcel). c.loop-parcel.yielded ++ ps) c.in-Some.ensures.steps.0
-          ∙ sym (append_assoc c.loop-parcel.yielded (c.in-Some.parcel ∷ []) (into_iter_items c.next.new.self));
+          ∙ sym (append_assoc c.loop-parcel.yielded (c.in-Some.parcel ∷ []) (drain_items c.next.new.self));
       put = c.in_ok-put.ensures.next
           ∙ ap (delivered (c.in-Some.parcel ∷ []) 1) before.put
           ∙ delivered-append c.loop-parcel.yielded (c.in-Some.parcel ∷ []) 1 c.args.outboxes.now.items;

@@ -33,9 +33,10 @@ returns-clause-told c =
     ∙ ap (λ (n : ℕ). map (floor_notice n) watched) is
     ∙ ap (λ (us : List FloorUpdate). map (floor_notice s.config.conference) us) (updates-watched s.shown.items c.args.changes.now.floors.items s.members s.config.floors) in
     on_ok c.put_behind.result (λ put. put
+    ∙ ap (λ (ps : List Parcel). ps ++ c.tell.new.out.items) c.emptied-parcels.ensures.left
     ∙ ap (λ (ps : List Parcel). c.args.out.now.items ++ ps)
     (c.in_ok-tell.ensures.told
-    ∙ ap (λ (ps : List Parcel). ps ++ told_of_all (noticed_to_all c.conference-conference.result reply updates c.deref-4.result.now s.members) s.members) c.new-parcels.ensures.items
+    ∙ ap (λ (ps : List Parcel). ps ++ told_of_all (noticed_to_all c.conference-conference.result reply updates c.deref-4.result.now s.members) s.members) c.emptied-parcels.ensures.value
     ∙ ap (λ (ns : List FloorNotice). told_of_all (noticed_to_all c.conference-conference.result reply updates ns s.members) s.members) all
     ∙ ap (λ (n : ℕ). told_of_all (noticed_to_all n reply updates notices s.members) s.members) is
     ∙ ap (λ (ps : List Parcel). told_of_all ps s.members) (noticed-all s.config.conference reply updates fs s.members)))

@@ -14,9 +14,10 @@ returns-clause-told c =
     let reply = c.args.reply.now in
     let is : c.conference-conference.result ≡ s.config.conference = search rules in
     on_ok c.put_behind.result (λ put. put
+    ∙ ap (λ (ps : List Parcel). ps ++ c.tell_sender.new.out.items) c.emptied-parcels.ensures.left
     ∙ ap (λ (ps : List Parcel). c.args.out.now.items ++ ps)
     (c.in_ok-tell_sender.ensures.told
-    ∙ ap (λ (ps : List Parcel). ps ++ told_of_all (noticed_to_all c.conference-conference.result reply [] [] s.members) s.members) c.new-parcels.ensures.items
+    ∙ ap (λ (ps : List Parcel). ps ++ told_of_all (noticed_to_all c.conference-conference.result reply [] [] s.members) s.members) c.emptied-parcels.ensures.value
     ∙ ap (λ (n : ℕ). told_of_all (noticed_to_all n reply [] [] s.members) s.members) is
     ∙ ap (λ (ps : List Parcel). told_of_all ps s.members) (noticed-all s.config.conference reply [] [] s.members)))
     c.put_behind.ensures.out

@@ -25,8 +25,8 @@ loop-number-init c =
     record {
       walked = record {
         at = begun-at c.args.settled.now.config.now known.was course.ended.items ongoing known.requests c.args.infos.now.items course.numbers.items known.before known.old;
-        updates = c.new.ensures;
-        floors = c.new-2.ensures.items;
+        updates = c.requires.unchanged;
+        floors = c.requires.unmoved;
       };
       within = omega arith;
       rest = λ i from within. list_all_at (λ n. is_still ongoing course n || is_one_of n c.args.some.now) course.numbers.items i 0 c.requires.moved within;

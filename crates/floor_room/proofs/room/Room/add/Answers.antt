@@ -21,29 +21,29 @@ pub invariant_of-self-then-tells : goal.invariant_of-self-then-tells
 invariant_of-self-then-tells c =
     let r : spec.Room = record { ledger = c.self.inside.ledger; outboxes = c.self.inside.outboxes.items; told = c.self.inside.told; kept = c.self.inside.kept } in
     let few : length c.queue.new.outboxes.items < vec_capacity c.queue.new.outboxes = omega (arith, c.in-Ok-queue.ensures.spare) in
-    keeps-queued r c.call.new.self c.call.new.self c.args.event c.in-Ok.called.parcels.items c.in-Ok.called.parcels.items [] false c.queue.new.outboxes.items c.events-self-inside.result
-    (vec_capacity c.self.inside.outboxes) (vec_capacity c.queue.new.outboxes) c.self.invariant c.in-Ok.ensures.took c.queue.ensures.count (sym (append-nil c.in-Ok.called.parcels.items)) (λ h. refl)
+    keeps-queued r c.call.new.self c.call.new.self c.args.event c.call.new.out.items c.call.new.out.items [] false c.queue.new.outboxes.items c.events-self-inside.result
+    (vec_capacity c.self.inside.outboxes) (vec_capacity c.queue.new.outboxes) c.self.invariant c.in-Ok.ensures.took c.queue.ensures.count (sym (append-nil c.call.new.out.items)) (λ h. refl)
     (entry-whole c.self.inside.ledger c.call.new.self c.args.event c.in-Ok.ensures.took.next)
-    (c.in-Ok-queue.ensures.next ∙ ap (λ (os : List Outbox). delivered c.in-Ok.called.parcels.items 1 (c.self.inside.outboxes.items ++ os)) c.outbox_for-outbox.ensures)
-    (told-some r c.in-Ok.called.parcels.items (vec_len c.in-Ok.called.parcels) c.call.new.self c.args.event c.events-self-inside.result c.in-Ok.called.parcels.ok.0 c.in-Ok.ensures.took.next (sym c.if-tells.ensures) c.events-self-inside.ensures.value)
+    (c.in-Ok-queue.ensures.next ∙ ap (λ (os : List Outbox). delivered c.call.new.out.items 1 (c.self.inside.outboxes.items ++ os)) c.outbox_for-outbox.ensures)
+    (told-some r c.call.new.out.items (vec_len c.call.new.out) c.call.new.self c.args.event c.events-self-inside.result c.call.new.out.ok.0 c.in-Ok.ensures.took.next (sym c.if-tells.ensures) c.events-self-inside.ensures.value)
     (λ h. few)
 
 pub invariant_of-self-else-tells : goal.invariant_of-self-else-tells
 invariant_of-self-else-tells c =
     let r : spec.Room = record { ledger = c.self.inside.ledger; outboxes = c.self.inside.outboxes.items; told = c.self.inside.told; kept = c.self.inside.kept } in
     let few : length c.queue.new.outboxes.items < vec_capacity c.queue.new.outboxes = omega (arith, c.in-Ok-queue.ensures.spare) in
-    keeps-queued r c.call.new.self c.call.new.self c.args.event c.in-Ok.called.parcels.items c.in-Ok.called.parcels.items [] false c.queue.new.outboxes.items c.self.inside.told
-    (vec_capacity c.self.inside.outboxes) (vec_capacity c.queue.new.outboxes) c.self.invariant c.in-Ok.ensures.took c.queue.ensures.count (sym (append-nil c.in-Ok.called.parcels.items)) (λ h. refl)
+    keeps-queued r c.call.new.self c.call.new.self c.args.event c.call.new.out.items c.call.new.out.items [] false c.queue.new.outboxes.items c.self.inside.told
+    (vec_capacity c.self.inside.outboxes) (vec_capacity c.queue.new.outboxes) c.self.invariant c.in-Ok.ensures.took c.queue.ensures.count (sym (append-nil c.call.new.out.items)) (λ h. refl)
     (entry-whole c.self.inside.ledger c.call.new.self c.args.event c.in-Ok.ensures.took.next)
-    (c.in-Ok-queue.ensures.next ∙ ap (λ (os : List Outbox). delivered c.in-Ok.called.parcels.items 1 (c.self.inside.outboxes.items ++ os)) c.outbox_for-outbox.ensures)
-    (told-none r c.in-Ok.called.parcels.items (vec_len c.in-Ok.called.parcels) c.in-Ok.called.parcels.ok.0 (sym c.if-tells.ensures))
+    (c.in-Ok-queue.ensures.next ∙ ap (λ (os : List Outbox). delivered c.call.new.out.items 1 (c.self.inside.outboxes.items ++ os)) c.outbox_for-outbox.ensures)
+    (told-none r c.call.new.out.items (vec_len c.call.new.out) c.call.new.out.ok.0 (sym c.if-tells.ensures))
     (λ h. few)
 
 pub invariant_of-self-in-Err-queue : goal.invariant_of-self-in-Err-queue
 invariant_of-self-in-Err-queue c =
     let r : spec.Room = record { ledger = c.self.inside.ledger; outboxes = c.self.inside.outboxes.items; told = c.self.inside.told; kept = c.self.inside.kept } in
     let part = c.in-Err-queue.ensures.left in
-    keeps-queued r c.call.new.self c.break_off.new.self c.args.event c.in-Ok.called.parcels.items part.put part.rest true c.queue.new.outboxes.items c.events-self-inside-in-Err-queue.result
+    keeps-queued r c.call.new.self c.break_off.new.self c.args.event c.call.new.out.items part.put part.rest true c.queue.new.outboxes.items c.events-self-inside-in-Err-queue.result
     (vec_capacity c.self.inside.outboxes) (vec_capacity c.queue.new.outboxes) c.self.invariant c.in-Ok.ensures.took c.queue.ensures.count part.all (λ h. cc)
     c.break_off.ensures.next
     (part.outboxes ∙ ap (λ (os : List Outbox). delivered part.put 1 (c.self.inside.outboxes.items ++ os)) c.outbox_for-outbox.ensures)
@@ -54,7 +54,7 @@ pub invariant_of-self-in-Err-queue-2 : goal.invariant_of-self-in-Err-queue-2
 invariant_of-self-in-Err-queue-2 c =
     let r : spec.Room = record { ledger = c.self.inside.ledger; outboxes = c.self.inside.outboxes.items; told = c.self.inside.told; kept = c.self.inside.kept } in
     let part = c.in-Err-queue.ensures.left in
-    keeps-queued r c.call.new.self c.break_off.new.self c.args.event c.in-Ok.called.parcels.items part.put part.rest true c.queue.new.outboxes.items c.events-self-inside-in-Err-queue.result
+    keeps-queued r c.call.new.self c.break_off.new.self c.args.event c.call.new.out.items part.put part.rest true c.queue.new.outboxes.items c.events-self-inside-in-Err-queue.result
     (vec_capacity c.self.inside.outboxes) (vec_capacity c.queue.new.outboxes) c.self.invariant c.in-Ok.ensures.took c.queue.ensures.count part.all (λ h. cc)
     c.break_off.ensures.next
     (part.outboxes ∙ ap (λ (os : List Outbox). delivered part.put 1 (c.self.inside.outboxes.items ++ os)) c.outbox_for-outbox.ensures)
@@ -65,7 +65,7 @@ pub invariant_of-self-in-Err-queue-3 : goal.invariant_of-self-in-Err-queue-3
 invariant_of-self-in-Err-queue-3 c =
     let r : spec.Room = record { ledger = c.self.inside.ledger; outboxes = c.self.inside.outboxes.items; told = c.self.inside.told; kept = c.self.inside.kept } in
     let part = c.in-Err-queue.ensures.left in
-    keeps-queued r c.call.new.self c.break_off.new.self c.args.event c.in-Ok.called.parcels.items part.put part.rest true c.queue.new.outboxes.items c.events-self-inside-in-Err-queue.result
+    keeps-queued r c.call.new.self c.break_off.new.self c.args.event c.call.new.out.items part.put part.rest true c.queue.new.outboxes.items c.events-self-inside-in-Err-queue.result
     (vec_capacity c.self.inside.outboxes) (vec_capacity c.queue.new.outboxes) c.self.invariant c.in-Ok.ensures.took c.queue.ensures.count part.all (λ h. cc)
     c.break_off.ensures.next
     (part.outboxes ∙ ap (λ (os : List Outbox). delivered part.put 1 (c.self.inside.outboxes.items ++ os)) c.outbox_for-outbox.ensures)
@@ -76,7 +76,7 @@ pub invariant_of-self-in-Err-queue-4 : goal.invariant_of-self-in-Err-queue-4
 invariant_of-self-in-Err-queue-4 c =
     let r : spec.Room = record { ledger = c.self.inside.ledger; outboxes = c.self.inside.outboxes.items; told = c.self.inside.told; kept = c.self.inside.kept } in
     let part = c.in-Err-queue.ensures.left in
-    keeps-queued r c.call.new.self c.break_off.new.self c.args.event c.in-Ok.called.parcels.items part.put part.rest true c.queue.new.outboxes.items c.events-self-inside-in-Err-queue.result
+    keeps-queued r c.call.new.self c.break_off.new.self c.args.event c.call.new.out.items part.put part.rest true c.queue.new.outboxes.items c.events-self-inside-in-Err-queue.result
     (vec_capacity c.self.inside.outboxes) (vec_capacity c.queue.new.outboxes) c.self.invariant c.in-Ok.ensures.took c.queue.ensures.count part.all (λ h. cc)
     c.break_off.ensures.next
     (part.outboxes ∙ ap (λ (os : List Outbox). delivered part.put 1 (c.self.inside.outboxes.items ++ os)) c.outbox_for-outbox.ensures)
